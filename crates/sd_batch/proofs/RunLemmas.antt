@@ -5,8 +5,7 @@ use Rattle.std.proofs.lemmas.List.Elements.{All-nil, All-cons}
 use Rattle.std.proofs.lemmas.List.Sums.{sum_by-cons}
 use Rattle.sd_model_text.specs.Lines.{Sample}
 use Rattle.sd_model_shard.specs.Shard.{Limits, Policy, State, Event, Submit, Reply, step}
-use Rattle.sd_model_shard.specs.History.{Act}
-use Rattle.sd_model_shard.specs.Whereabouts.{summed_by}
+use Rattle.sd_model_shard.specs.History.{Act, summed_by}
 use Rattle.sd_batch.specs.Runs.{submitted}
 
 module _ (limits : Limits) (policy : Policy) (who : ℕ) where

@@ -1,6 +1,6 @@
 ghost use Rattle.std.specs.Prelude.{◌≡◌, ◌+◌, ◌<◌, None};
 ghost use Rattle.sd_model_shard.specs.Shard.{Answered};
-ghost use Rattle.sd_model_shard.specs.Whereabouts.{dropped_in};
+ghost use Rattle.sd_model_shard.specs.History.{dropped_in};
 ghost use Rattle.sd_law_shard.specs.Sums.{taken_in};
 ghost use Rattle.sd_shard.specs.Shard.{placed_of};
 

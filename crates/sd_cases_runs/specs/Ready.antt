@@ -1,7 +1,7 @@
 -- What a run needs of its objects.
 use Rattle.std.specs.Prelude.{◌≡◌, ◌<◌, ◌≤◌, ◌^◌, false, length}
 use Rattle.sd_model_outside.specs.Outside.{Object}
-use Rattle.sd_top.specs.declared.call.World.{World}
+use Rattle.sd_opening.specs.declared.world.World.{World}
 
 -- there are enough sources and wires, the beat and the doors have turns left, and no session is out
 pub record IsReady {R O B D L E P G T Q S W : Type 0} (door_seen : E → Object) (beat_seen : P → Object) (streams_seen : S → Object) (world : World R O B D L E P G T Q S W) : Type 0 where

@@ -2,7 +2,7 @@ use sd_case::{Answer, Refusal, bytes_of, number};
 use sd_config::ConfigFault;
 use sd_decimal::Line;
 use sd_outside::Name;
-use sd_replay::ScriptFault;
+use sd_script::ScriptFault;
 use sd_top::{Part, Status, explain};
 use std::alloc::Global;
 

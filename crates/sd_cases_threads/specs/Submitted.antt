@@ -1,7 +1,7 @@
 -- How many samples a seat has submitted.
 use Rattle.std.specs.Prelude.{ℕ}
 use Rattle.sd_model_shard.specs.Shard.{Reply, Answered}
-use Rattle.sd_model_shard.specs.Whereabouts.{summed_by}
+use Rattle.sd_model_shard.specs.History.{summed_by}
 use Rattle.sd_pool.specs.Pool.{own_at}
 use Rattle.sd_pool.specs.declared.seat.Seat.{Seat}
 

@@ -10,8 +10,8 @@ use Rattle.sd_model_outside.specs.Outside.{Object, Place, Content, Ticks, HasFai
 use Rattle.sd_outside.specs.Turns.{raised, GivesTick}
 use Rattle.sd_model_outside.specs.Uses.{IsSpent, with_ticks, AreAsked}
 use Rattle.sd_model_outside.proofs.TurnLemmas.{with_ticks-append}
-use Rattle.sd_model_serve.specs.Receiving.{most_turns}
-use Rattle.sd_model_live.specs.Proxy.{Check, IsCheck, answers_of, EndsChecker}
+use Rattle.sd_model_serve.specs.Receiving.{EndsReceiver, IsShort, most_turns}
+use Rattle.sd_model_live.specs.Proxy.{Check, IsCheck, answers_of}
 use Rattle.sd_model_live.specs.Port.{CountsCheck, ProxyEvent}
 use Rattle.sd_model_live.proofs.QuestionLemmas.{AreAsked-append, failed-append}
 use Rattle.sd_check.specs.Questions.{HasAskedAll}
@@ -109,7 +109,7 @@ module _ (nodes : List Node) (old now : CheckSeen) (count faults : ℕ) where
 
   -- how it ended: at most the count of the beat's faults changed
   pub ran_out : (beat_now : Object) (ended : CheckEnd) (result : Checked) → result.ended ≡ ended → result.checks ≡ count → result.probe_faults ≡ faults → Ran nodes old now count faults → beat_now ≡ record now.beat { faults = beat_now.faults }
-      → EndsChecker (end_view ended) old.beat beat_now count → Checks nodes old (record now { beat = beat_now }) result
+      → EndsReceiver 0 (end_view ended) old.beat beat_now 0 count → Checks nodes old (record now { beat = beat_now }) result
   ran_out beat_now ended result so counted faulty r last ends = record {
     made = r.checks;
     checked = record {
@@ -118,7 +118,7 @@ module _ (nodes : List Node) (old now : CheckSeen) (count faults : ℕ) where
       asked = r.asked;
       given = r.given ∙ ap (λ (o : Object). with_ticks (seconds r.checks) o.content) (sym last);
       turns = ap (λ (o : Object). o.turns) last ∙ r.turns ∙ ap (λ n. min (old.beat.turns + n) last_count) r.counted;
-      ends = subst (λ (x : CheckEnd × ℕ). EndsChecker (end_view x.0) old.beat beat_now x.1) (λ i. (sym so i, r.counted i)) ends;
+      ends = subst (λ (x : CheckEnd × ℕ). EndsReceiver 0 (end_view x.0) old.beat beat_now 0 x.1) (λ i. (sym so i, r.counted i)) ends;
       same = same_next beat_now r.same (last ∙ ap (λ (o : Object). record now.beat { content = o.content; faults = beat_now.faults; turns = o.turns }) (sym last));
     };
     events = r.events;
@@ -127,12 +127,12 @@ module _ (nodes : List Node) (old now : CheckSeen) (count faults : ℕ) where
   }
 
   -- the beat had no tick left
-  pub ends_spent : (beat_now : Object) → Ran nodes old now count faults → beat_now ≡ now.beat → IsSpent now.beat.content → count < most_turns → IsSpent beat_now.content × (beat_now.faults ≡ old.beat.faults) × (count < most_turns)
-  ends_spent beat_now r last spent few = (subst (λ (o : Object). IsSpent o.content) (sym last) spent, ap (λ (o : Object). o.faults) last ∙ r.steady, few)
+  pub ends_spent : (beat_now : Object) → Ran nodes old now count faults → beat_now ≡ now.beat → IsSpent now.beat.content → count < most_turns → IsSpent beat_now.content × (beat_now.faults ≡ old.beat.faults) × IsShort 0 0 × (count < most_turns)
+  ends_spent beat_now r last spent few = (subst (λ (o : Object). IsSpent o.content) (sym last) spent, ap (λ (o : Object). o.faults) last ∙ r.steady, λ some. some, few)
 
   -- the beat failed
-  pub ends_failed : (beat_now : Object) → Ran nodes old now count faults → HasFailed now.beat beat_now → count < most_turns → Rose old.beat.faults beat_now.faults × (count < most_turns)
-  ends_failed beat_now r failed few = (subst (λ n. Rose n beat_now.faults) r.steady failed.rose, few)
+  pub ends_failed : (beat_now : Object) → Ran nodes old now count faults → HasFailed now.beat beat_now → count < most_turns → Rose old.beat.faults beat_now.faults × IsShort 0 0 × (count < most_turns)
+  ends_failed beat_now r failed few = (subst (λ n. Rose n beat_now.faults) r.steady failed.rose, λ some. some, few)
 
 -- a beat that is as it was
 pub same_faults : (old new : Object) → new ≡ old → new ≡ record old { faults = new.faults }

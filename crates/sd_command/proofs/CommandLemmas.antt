@@ -16,7 +16,7 @@ use Rattle.sd_model_outside.specs.Outside.{Object, HasFailedBehind, given}
 use Rattle.sd_model_outside.proofs.WriteLemmas.{given-given, behind-later}
 use Rattle.sd_model_shard.specs.Shard as shard
 use Rattle.sd_model_shard.specs.Shard.{State, empty_state, Event, Delete, Dump, Look, Numbers, after_delete, deletion_of, numbers_of}
-use Rattle.sd_model_shard.specs.Rows.{RowId, Kept, row_cmp, is_hit, rows_left, rows_taken_out, samples_in, samples_where, listed_in}
+use Rattle.sd_model_shard.specs.Rows.{RowId, Kept, row_cmp, is_hit, rows_left, rows_taken_out, samples_in, samples_where}
 use Rattle.sd_model_shard.proofs.SumLemmas.{samples-parts, samples-none}
 use Rattle.sd_model_shard.proofs.SummaryLemmas.{Tell-empty}
 use Rattle.sd_model_shard.proofs.RowLemmas.{rows_total, rows_exact}
@@ -27,14 +27,14 @@ use Rattle.sd_model_record.specs.Admin.{AdminFault, TooLong, words, command_name
 use Rattle.sd_model_record.specs.Replies.{AdminReply, Stats, Totals, Rows, Gone, Finish, reply_text, admin_events, names_replied, numbers_looked, replies_by, replies_text}
 use Rattle.sd_model_replay.specs.Replay.{Bounds, bounds_of, states_after}
 use Rattle.sd_model_replay.specs.Script.{Admin}
-use Rattle.sd_model_serve.specs.Receiving.{administrator}
+use Rattle.sd_model_serve.specs.Receiving.{administrator, Broadcast, replies_at}
 use Rattle.sd_model_record.specs.Desk.{Desk, Facts}
-use Rattle.sd_model_serve.specs.Sessions.{Broadcast, replies_at}
 use Rattle.sd_model_replay.specs.AccountingTheorem.{broadcasts, output_in}
 use Rattle.sd_shards.specs.Shards.{Group, AreAlike, numbers as shards_of, state_at}
 use Rattle.sd_command.specs.Commanded.{IsWritten, deleted}
 use Rattle.sd_model_settings.specs.Settings.{Settings}
 use Rattle.sd_model_record.proofs.Short.{numbers_reported, keys_reported, rows_reported}
+use Rattle.sd_model_shard.proofs.Short.{listed_in}
 
 -- events as an administrator asks for them
 abbrev as_asked : List Event → List Asked

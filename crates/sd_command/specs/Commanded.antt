@@ -4,9 +4,9 @@ use Rattle.sd_model_text.specs.Names.{Kind}
 use Rattle.sd_model_outside.specs.Outside.{Object, HasFailedBehind, given}
 use Rattle.sd_model_shard.specs.Shard as shard
 use Rattle.sd_model_shard.specs.Shard.{Event, State, after_delete}
-use Rattle.sd_model_serve.specs.Sessions.{replies_at}
 use Rattle.sd_model_replay.specs.AccountingTheorem.{broadcasts}
 use Rattle.sd_shards.specs.Shards.{Group, group_bounds, state_at}
+use Rattle.sd_model_serve.specs.Receiving.{replies_at}
 
 -- a text was written whole, or the output failed once it was given a prefix of it
 abbrev pub IsWritten : {E : Type 0} → List ℕ → Result ⊤ E → Object → Object → Type 0

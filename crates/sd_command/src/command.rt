@@ -4,7 +4,6 @@ ghost use Rattle.sd_model_outside.specs.Outside.{Object, HasFailedBehind, given}
 ghost use Rattle.sd_model_shard.specs.Shard.{Delete, Dump as DumpOf};
 ghost use Rattle.sd_model_record.specs.Admin.{command};
 ghost use Rattle.sd_admin.specs.Words.{names_of};
-ghost use Rattle.sd_model_record.specs.Desk.{with_health};
 ghost use Rattle.sd_model_record.specs.Replies.{Finish, Rows, reply_text, health_after, names_replied, replies_text, rows_in};
 ghost use Rattle.sd_admin.specs.Order.{IsInOrder};
 ghost use Rattle.sd_model_replay.specs.Script.{Admin};
@@ -16,6 +15,7 @@ ghost use Rattle.sd_admin.specs.Command.{command_view, health_word_view};
 ghost use Rattle.sd_admin.specs.Reply.{reply_view};
 ghost use Rattle.sd_command.specs.Commanded.{IsWritten, deleted, reported_of};
 ghost use Rattle.sd_model_shard.specs.Rows.{in_key_order};
+ghost use Rattle.sd_desk.specs.Steps.{with_health};
 
 use sd_admin::{Command, HealthWord, Reply, write_reply};
 use sd_config::Settings;

@@ -6,7 +6,7 @@ use Rattle.std.specs.declared.alloc.Global.{Global}
 use Rattle.toml.specs.declared.value.Value.{Value}
 use Rattle.toml.specs.Data.{Members, no_members}
 use Rattle.toml.specs.View.{table_view}
-use Rattle.sd_model_settings.specs.Values.{is_prefix, is_filled_prefix, is_metric, is_host}
+use Rattle.sd_model_settings.specs.Values.{is_name_text, is_filled_prefix, is_host}
 use Rattle.sd_model_settings.specs.Entries.{is_backend, is_class_name}
 use Rattle.sd_model_settings.specs.Settings as model
 use Rattle.sd_config.specs.declared.values.TextRule.{TextRule}
@@ -15,12 +15,12 @@ use Rattle.sd_config.specs.declared.section.Section.{Section}
 
 -- the test that a text has to pass
 abbrev pub passes : TextRule → List ℕ → Bool
-passes Prefix = is_prefix
+passes Prefix = is_name_text 64
 passes FilledPrefix = is_filled_prefix
 passes Host = is_host
 passes Backend = is_backend
 passes ClassName = is_class_name
-passes Metric = is_metric
+passes Metric = is_name_text 255
 
 -- the length that it has at most
 abbrev pub longest : TextRule → ℕ

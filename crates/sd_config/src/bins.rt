@@ -1,10 +1,10 @@
-ghost use Rattle.std.specs.Prelude.{◌≡◌, Ok, if◌then◌else◌};
+ghost use Rattle.std.specs.Prelude.{◌≡◌, Ok, if◌then◌else◌, ◌&&◌, Err};
 ghost use Rattle.std.specs.List.{list_all};
 ghost use Rattle.toml.specs.Data.{get_member};
 ghost use Rattle.toml.specs.View.{view, items_view, table_view};
-ghost use Rattle.sd_model_settings.specs.Values.{required, decimal, mapped};
+ghost use Rattle.sd_model_settings.specs.Values.{required, decimal, mapped, each, are_at_most, OtherKind, ranged};
 ghost use Rattle.sd_model_text.specs.Numbers.{ascends, limit_lt, Below, Infinite};
-ghost use Rattle.sd_model_settings.specs.Entries.{is_inf, has_early_inf, is_limit, are_limits, bins_of, bins_read};
+ghost use Rattle.sd_model_settings.specs.Entries.{is_inf, has_early_inf, is_limit, bins_read};
 ghost use Rattle.sd_config.specs.Answers.{seen_by};
 ghost use Rattle.sd_plan.specs.Entries.{limit_of, limits_of};
 
@@ -101,13 +101,13 @@ fn ascends(limits: &[Limit]) -> bool
 
 #[tactic(auto, using(crate::proofs::Limits::list_all_limits))]
 fn are_limits(limits: &[Limit]) -> bool
-    ensures { result ≡ are_limits (limits_of limits.now) }
+    ensures { result ≡ (list_all is_limit (limits_of limits.now) && ascends (limits_of limits.now)) }
 {
     each_is_limit(limits) && ascends(limits)
 }
 
 fn bins_of(items: &[Value]) -> Result<ArrayVec<Limit, 64>, ValueFault>
-    ensures { seen_by (λ v. limits_of v.items) result ≡ bins_of (items_view items.now) }
+    ensures { seen_by (λ v. limits_of v.items) result ≡ (if has_early_inf (items_view items.now) then Err OtherKind else ranged (λ limits. list_all is_limit limits && ascends limits) (ranged (are_at_most 64) (each (λ d. if is_inf d then Ok Infinite else mapped Below (decimal d)) (items_view items.now)))) }
 {
     if has_early_inf(items) {
         return Err(ValueFault::Kind);

@@ -2,9 +2,10 @@ ghost use Rattle.std.specs.Prelude.{◌≡◌, not, unsigned_abs, nat_le, ◌==�
 ghost use Rattle.std.specs.List.{list_all};
 ghost use Rattle.std.specs.Ordering.{int_eq};
 ghost use Rattle.toml.specs.View.{view};
-ghost use Rattle.sd_model_settings.specs.Entries.{are_thresholds, thresholds};
+ghost use Rattle.sd_model_settings.specs.Entries.{thresholds};
 ghost use Rattle.sd_config.specs.Answers.{seen_by};
 ghost use Rattle.sd_plan.specs.Values.{micros};
+ghost use Rattle.sd_model_settings.specs.Values.{are_distinct};
 
 use crate::fault::ValueFault;
 use crate::lists::{Element, are_distinct, each, one_or_list};
@@ -42,7 +43,7 @@ fn each_is_threshold(numbers: &[Micro]) -> bool
 
 #[tactic(auto, using(crate::proofs::Micros::list_all_micros, crate::proofs::Micros::are_distinct_micros))]
 fn are_thresholds(numbers: &[Micro]) -> bool
-    ensures { result ≡ are_thresholds (micros numbers.now) }
+    ensures { result ≡ (list_all (λ z. nat_le (unsigned_abs z) 100000000 && not (unsigned_abs z == 0)) (micros numbers.now) && are_distinct int_eq (micros numbers.now)) }
 {
     each_is_threshold(numbers) && are_distinct(numbers)
 }

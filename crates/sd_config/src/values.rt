@@ -2,7 +2,7 @@ ghost use Rattle.std.specs.Prelude.{◌≡◌, ◌≤◌, length, IsTrue, IfOk, 
 ghost use Rattle.std.specs.List.{list_all};
 ghost use Rattle.toml.specs.View.{view};
 ghost use Rattle.sd_model_text.specs.Names.{is_name_byte};
-ghost use Rattle.sd_model_settings.specs.Values.{whole_read, flag, text, decimal, is_prefix, is_filled_prefix, is_metric, is_host};
+ghost use Rattle.sd_model_settings.specs.Values.{whole_read, flag, text, decimal, is_name_text, is_filled_prefix, is_host};
 ghost use Rattle.sd_model_settings.specs.Entries.{is_backend, Share, read_as};
 ghost use Rattle.sd_law_settings.specs.Ranges.{IsWithin};
 ghost use Rattle.sd_config.specs.Answers.{seen_by};
@@ -90,13 +90,13 @@ fn are_host_bytes(bytes: &[u8]) -> bool
 }
 
 fn is_prefix(bytes: &[u8]) -> bool
-    ensures { result ≡ is_prefix bytes.now }
+    ensures { result ≡ is_name_text 64 bytes.now }
 {
     bytes.len() <= 64 && are_name_bytes(bytes)
 }
 
 fn is_metric(bytes: &[u8]) -> bool
-    ensures { result ≡ is_metric bytes.now }
+    ensures { result ≡ is_name_text 255 bytes.now }
 {
     bytes.len() <= 255 && are_name_bytes(bytes)
 }

@@ -2,7 +2,7 @@ ghost use Rattle.std.specs.Prelude.{◌≡◌, ◌+◌, ◌≤◌, [], ◌∷◌
 ghost use Rattle.std.specs.Option.{option_map};
 ghost use Rattle.arrayvec.specs.ArrayVec.{array_vec_len};
 ghost use Rattle.sd_law_settings.specs.Ranges.{IsClasses, AreLimits, AreHistograms};
-ghost use Rattle.sd_model_settings.specs.ConfigText.{config_line, limit_text, with_commas, group_lines, first_lines, histogram_line, repeater_line, node_line, back_lines, config_lines};
+ghost use Rattle.sd_model_settings.specs.ConfigText.{config_line, limit_text, with_commas, group_lines, first_lines, back_lines, config_lines};
 ghost use Rattle.sd_model_settings.specs.Table.{server, deletion_rules, addresses, namespace, sizes, flush_rules, transport};
 ghost use Rattle.sd_plan.specs.Entries.{limits_of, classes_view, target_view, node_view};
 
@@ -119,7 +119,7 @@ fn push_limits(limits: &[Limit], value: &mut ReplyLine)
 /// The line of an entry of `histogram`.
 fn histogram_line(classes: &Classes) -> ReplyLine
     requires { IsClasses (classes_view classes.now) }
-    ensures { result.items ≡ histogram_line (codes "histogram") (classes_view classes.now) }
+    ensures { result.items ≡ config_line (codes "histogram") ((classes_view classes.now).metric ++ 32 ∷ with_commas (map limit_text (classes_view classes.now).limits)) }
 {
     let mut value = ReplyLine::new();
     push_text(classes.metric.as_slice(), &mut value);
@@ -142,7 +142,7 @@ fn push_port(port: u16, value: &mut ReplyLine)
 
 /// The line of an entry of `repeater`.
 fn repeater_line(target: &Target) -> ReplyLine
-    ensures { result.items ≡ repeater_line (codes "repeater") (target_view target.now) }
+    ensures { result.items ≡ config_line (codes "repeater") ((target_view target.now).host ++ 58 ∷ decimal (target_view target.now).port) }
 {
     let mut value = ReplyLine::new();
     push_text(target.host.as_slice(), &mut value);
@@ -152,7 +152,7 @@ fn repeater_line(target: &Target) -> ReplyLine
 
 /// The line of an entry of `nodes`.
 fn node_line(node: &Node) -> ReplyLine
-    ensures { result.items ≡ node_line (codes "nodes") (node_view node.now) }
+    ensures { result.items ≡ config_line (codes "nodes") ((node_view node.now).host ++ 58 ∷ decimal (node_view node.now).port ++ 58 ∷ decimal (node_view node.now).adminport) }
 {
     let mut value = ReplyLine::new();
     push_text(node.host.as_slice(), &mut value);
@@ -197,7 +197,7 @@ fn back_line(settings: &Settings, place: usize) -> Option<ReplyLine>
 fn histogram_at(histogram: &[Classes], place: usize) -> Option<ReplyLine>
     requires { AreHistograms (map classes_view histogram.now) }
     ensures { option_map (λ l. l.items) result
-        ≡ slice_get (map (histogram_line (codes "histogram")) (map classes_view histogram.now)) place }
+        ≡ slice_get (map (λ c. config_line (codes "histogram") (c.metric ++ 32 ∷ with_commas (map limit_text c.limits))) (map classes_view histogram.now)) place }
 {
     match histogram.get(place) {
         Some(classes) => Some(histogram_line(classes)),
@@ -208,7 +208,7 @@ fn histogram_at(histogram: &[Classes], place: usize) -> Option<ReplyLine>
 /// The line of the entry of `repeater` at a place.
 fn repeater_at(repeater: &[Target], place: usize) -> Option<ReplyLine>
     ensures { option_map (λ l. l.items) result
-        ≡ slice_get (map (repeater_line (codes "repeater")) (map target_view repeater.now)) place }
+        ≡ slice_get (map (λ t. config_line (codes "repeater") (t.host ++ 58 ∷ decimal t.port)) (map target_view repeater.now)) place }
 {
     match repeater.get(place) {
         Some(target) => Some(repeater_line(target)),
@@ -219,7 +219,7 @@ fn repeater_at(repeater: &[Target], place: usize) -> Option<ReplyLine>
 /// The line of the entry of `nodes` at a place.
 fn node_at(nodes: &[Node], place: usize) -> Option<ReplyLine>
     ensures { option_map (λ l. l.items) result
-        ≡ slice_get (map (node_line (codes "nodes")) (map node_view nodes.now)) place }
+        ≡ slice_get (map (λ n. config_line (codes "nodes") (n.host ++ 58 ∷ decimal n.port ++ 58 ∷ decimal n.adminport)) (map node_view nodes.now)) place }
 {
     match nodes.get(place) {
         Some(node) => Some(node_line(node)),

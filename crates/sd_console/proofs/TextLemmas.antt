@@ -6,10 +6,11 @@ use Rattle.std.specs.List.{concat}
 use Rattle.std.specs.Fmt.{decimal}
 use Rattle.sd_model_settings.specs.Entries.{sends}
 use Rattle.sd_model_record.specs.Record.{Row, CounterRow, TimerRow, GaugeRow, SetRow, TimerFigures, Record, Figure, figures_of}
-use Rattle.sd_model_record.specs.Backends.{console_figure, console_row, console_count, console_text}
+use Rattle.sd_model_record.specs.Backends.{console_row, console_count, console_text}
 use Rattle.sd_text.specs.Rows.{rows_text}
 use Rattle.sd_text.proofs.RowLemmas.{concat-sent, flat_map-same}
 use Rattle.sd_console.specs.Texts.{counter_line, sent_line, gauge_line, set_line, row_texts, count_texts}
+use Rattle.sd_model_record.proofs.Short.{console_figure}
 
 -- the lines of a row, joined
 row_texts-joined : (calculated : List (List ℕ)) (row : Row) → concat (row_texts calculated row) ≡ console_row calculated row

@@ -3,7 +3,7 @@ use Rattle.std.specs.Prelude.{ℕ, ℤ, List, [], ◌∷◌, ◌++◌, length, m
 use Rattle.sd_model_text.specs.Numbers.{number_text}
 use Rattle.sd_model_settings.specs.Entries.{sends}
 use Rattle.sd_model_record.specs.Record.{Row, CounterRow, TimerRow, GaugeRow, SetRow, Record, Figure, figures_of}
-use Rattle.sd_model_record.specs.Backends.{console_figure, console_count}
+use Rattle.sd_model_record.specs.Backends.{console_count}
 
 -- the line of a counter
 abbrev pub counter_line : List ℕ → ℤ → ℤ → List ℕ
@@ -19,7 +19,7 @@ set_line key count = codes "set " ++ key ++ 32 ∷ decimal count ++ 10 ∷ []
 
 -- the line of a timer's figure, or nothing where its class isn't sent
 abbrev pub sent_line : List (List ℕ) → List ℕ → Figure → List ℕ
-sent_line calculated key f = if sends calculated f.class then console_figure key f else []
+sent_line calculated key f = if sends calculated f.class then codes "timer " ++ key ++ 32 ∷ f.name ++ 32 ∷ number_text f.value ++ 10 ∷ [] else []
 
 -- the lines of a row, one by one
 unfoldable pub row_texts : List (List ℕ) → Row → List (List ℕ)

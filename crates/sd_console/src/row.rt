@@ -1,6 +1,5 @@
 ghost use Rattle.std.specs.Prelude.{◌≡◌, ◌≤◌, ◌∷◌, ◌++◌, [], length, codes, decimal};
 ghost use Rattle.sd_model_text.specs.Numbers.{number_text};
-ghost use Rattle.sd_model_record.specs.Backends.{console_figure};
 ghost use Rattle.sd_console.specs.Texts.{counter_line, sent_line, gauge_line, set_line};
 
 use sd_decimal::{Line, Micro, Sum};
@@ -68,7 +67,7 @@ fn put_counter(key: &Key, count: Sum, rate: Sum, line: &mut Line)
 
 /// Puts the line of a timer's figure into `line`.
 fn put_figure(key: &Key, figure: &FigureParts, line: &mut Line)
-    ensures { line.new.items ≡ console_figure key.now figure.now }
+    ensures { line.new.items ≡ (codes "timer " ++ key.now ++ 32 ∷ figure.now.name ++ 32 ∷ number_text figure.now.value ++ 10 ∷ []) }
 {
     begin(b"timer ", line);
     push_text(key.as_slice(), line);

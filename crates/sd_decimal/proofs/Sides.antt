@@ -10,8 +10,9 @@ use Rattle.std.proofs.lemmas.Bool.{and_from, and_left, and_right, both_ways, con
 use Rattle.std.proofs.lemmas.List.{get_or-take, length-take-le}
 use Rattle.std.proofs.lemmas.List.Folds.{list_all-append, list_all_at}
 use Rattle.std.proofs.lemmas.List.Sums.{position_or_len_is, prefix_len_passes, prefix_len_stops, prefix_len-le-length}
-use Rattle.sd_model_text.specs.Numbers.{rounded, raised, lowered, BadShape, is_point, within_range, magnitude_of_sides, magnitude_by}
+use Rattle.sd_model_text.specs.Numbers.{rounded, raised, lowered, BadShape, within_range, magnitude_of_sides, magnitude_by}
 use Rattle.sd_decimal.proofs.Digits.{digits_value-append}
+use Rattle.sd_model_text.proofs.Short.{is_point}
 
 digit_no_point : (b : ℕ) → is_ascii_digit b ≡ true → is_point b ≡ false
 digit_no_point b digit = grind arith

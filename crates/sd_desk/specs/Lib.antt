@@ -3,3 +3,4 @@ pub mod Facts
 pub mod Marks
 pub mod Tally
 pub mod Sums
+pub mod Steps

@@ -1,9 +1,10 @@
 ghost use Rattle.std.specs.Prelude.{◌≡◌};
-ghost use Rattle.sd_model_record.specs.Desk.{new_desk, with_tally, taken, marked, with_health, with_admin_fault, with_repeater_faults};
+ghost use Rattle.sd_model_record.specs.Desk.{new_desk};
 ghost use Rattle.sd_desk.specs.Sums.{AddsUp, IsInRange};
 ghost use Rattle.sd_desk.specs.Facts.{facts_view};
 ghost use Rattle.sd_desk.specs.Marks.{marks_of};
 ghost use Rattle.sd_desk.specs.Tally.{tally_of};
+ghost use Rattle.sd_desk.specs.Steps.{with_tally, taken, marked, with_health, with_admin_fault, with_repeater_faults};
 
 use crate::count::counted;
 use crate::facts::DeskFacts;

@@ -2,8 +2,9 @@
 use Rattle.std.proofs.Common.{◌≡◌, ℕ, ◌+◌, ◌⊎◌, inl, inr, List, [], ◌∷◌, ◌++◌, refl, sym, ap, ◌∙◌, arith, append_assoc, append-nil}
 use Rattle.std.specs.List.{AllByRecursion}
 use Rattle.sd_model_record.specs.DeskHistory.{DeskCall, AdminFault as FailedSession, Done}
-use Rattle.sd_model_record.specs.Totals.{Among, IsKeeperCall, Count, TotalPackets, TotalLines, TotalBad, TotalDropped, TakenPackets, TakenLines, TakenBad, TakenDropped, RoundsMade, GraphiteFaults, ConsoleFaults, RepeaterFaults, AdminFaults, Amounts}
+use Rattle.sd_model_record.specs.Totals.{Among, IsKeeperCall}
 use Rattle.sd_shared_desk.specs.Counts.{HasCalled, IsLook, Part, HasCounted, nothing, of_sessions, plus}
+use Rattle.sd_desk.specs.Sums.{Count, Amounts, TotalPackets, TotalLines, TotalBad, TotalDropped, TakenPackets, TakenLines, TakenBad, TakenDropped, RoundsMade, GraphiteFaults, ConsoleFaults, RepeaterFaults, AdminFaults}
 
 -- whether it is the count of these faults
 is_of_sessions : (c : Count) → ((n : ℕ) → of_sessions n c ≡ n) ⊎ ((n : ℕ) → of_sessions n c ≡ 0)

@@ -5,13 +5,14 @@ use Rattle.std.proofs.lemmas.List.Sums.{sum_by-append, sum_by-cons}
 use Rattle.sd_model_outside.specs.Outside.{Object, HasFailed}
 use Rattle.sd_outside.specs.Turns.{raised, GivesSession, HasLeft, turned}
 use Rattle.sd_model_record.specs.DeskHistory.{DeskCall}
-use Rattle.sd_model_record.specs.Totals.{Among, IsKeeperCall, Amounts}
+use Rattle.sd_model_record.specs.Totals.{Among, IsKeeperCall}
 use Rattle.sd_shared_desk.specs.Counts.{IsLook, Part, HasCalled, HasCounted, nothing, of_sessions, plus}
-use Rattle.sd_model_serve.specs.Doors.{Visit, faults_among}
+use Rattle.sd_model_serve.specs.Sessions.{Visit, faults_among}
 use Rattle.sd_door.specs.DoorKeeper.{HasKept, Visited}
 use Rattle.sd_talk.proofs.DoorLemmas.{ServesDoor-none, ServesDoor-failed, ServesDoor-one, ServesDoor-next}
 use Rattle.sd_door.proofs.DoorLemmas.{called_behind, counted_before, counted_behind, looks_among, counted_more, none_counted, nothing-plus, plus-assoc, plus-nothing}
 use Rattle.sd_model_serve.proofs.Short.{IsFaultOf}
+use Rattle.sd_desk.specs.Sums.{Amounts}
 
 -- 1 for a visit that is a fault
 abbrev fault_in : Visit → ℕ

@@ -3,13 +3,14 @@ use Rattle.std.specs.Prelude.{◌≡◌, ℕ, ◌+◌, Bool, true, false, List, 
 use Rattle.sd_model_outside.specs.Outside.{Object}
 use Rattle.sd_outside.specs.Turns.{raised}
 use Rattle.sd_model_outside.specs.Uses.{IsSpent}
-use Rattle.sd_model_record.specs.Totals.{Among, Amounts, IsKeeperCall, RoundsMade}
+use Rattle.sd_model_record.specs.Totals.{Among, IsKeeperCall}
 use Rattle.sd_shared_desk.specs.Counts.{Part, HasCalled, HasCounted, nothing, of_sessions, plus}
 use Rattle.sd_model_record.specs.DeskHistory.{DeskCall}
-use Rattle.sd_model_serve.specs.Doors.{Visit, ServesDoor, faults_among}
+use Rattle.sd_model_serve.specs.Sessions.{Visit, ServesDoor, faults_among}
 use Rattle.sd_model_serve.specs.Receiving.{EndsKeeper, Spent, Enough, LimitReached}
 use Rattle.sd_outside.specs.declared.door.DoorEnd.{DoorEnd}
 use Rattle.sd_outside.specs.declared.door.DoorEnd.TheVariants.{End, Stopped, Worn}
+use Rattle.sd_desk.specs.Sums.{Amounts, RoundsMade}
 
 -- a visit of which this is seen
 abbrev pub visit_of : (asking asking_now answered answered_now : Object) → Bool → Visit

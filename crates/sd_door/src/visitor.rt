@@ -1,10 +1,10 @@
 ghost use Rattle.std.specs.Prelude.{◌≡◌, ℕ, ◌+◌, ◌<◌, List, true};
-ghost use Rattle.sd_model_record.specs.Totals.{Amounts};
 ghost use Rattle.sd_model_record.specs.DeskHistory.{DeskCall};
-ghost use Rattle.sd_model_serve.specs.Doors.{Visit};
+ghost use Rattle.sd_model_serve.specs.Sessions.{Visit};
 ghost use Rattle.sd_pool.specs.declared.pool.Pool.{Pool};
 ghost use Rattle.sd_shared_desk.specs.Shared.{IsSeatOf, number_of_seat, part_of};
 ghost use Rattle.sd_door.specs.DoorKeeper.{Counts, visit_of};
+ghost use Rattle.sd_desk.specs.Sums.{Amounts};
 
 use log::Log;
 use sd_outside::{Clock, Gate, Sink, Source};

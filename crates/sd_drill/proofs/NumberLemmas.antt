@@ -1,7 +1,8 @@
 -- The numbers of the sequence, packet by packet.
 use Rattle.std.proofs.Common.{◌≡◌, ℕ, suc, ◌+◌, ◌*◌, refl, ap, ◌∙◌, arith}
 use Rattle.std.specs.List.{join_with_byte}
-use Rattle.sd_model_replay.specs.MadeScript.{next_number, made_number, made_lines, made_datagram}
+use Rattle.sd_model_replay.specs.MadeScript.{made_number, made_lines, made_datagram}
+use Rattle.sd_model_replay.proofs.Short.{next_number}
 
 -- the number behind number m
 number_behind : (m k : ℕ) → k ≡ suc m → made_number k ≡ next_number (made_number m)

@@ -1,7 +1,7 @@
-ghost use Rattle.std.specs.Prelude.{◌≡◌, ◌+◌, ◌<◌, ◌≤◌, ◌++◌, length};
+ghost use Rattle.std.specs.Prelude.{◌≡◌, ◌+◌, ◌<◌, ◌≤◌, ◌++◌, length, ◌*◌, ◌%◌};
 ghost use Rattle.std.specs.List.{join_with_byte};
 ghost use Rattle.arrayvec.specs.ArrayVec.{array_vec_len};
-ghost use Rattle.sd_model_replay.specs.MadeScript.{made_line, next_number};
+ghost use Rattle.sd_model_replay.specs.MadeScript.{made_line};
 
 use crate::text::push_text;
 use sd_decimal::{Line, write_whole};
@@ -12,7 +12,7 @@ pub(crate) const MODULUS: u32 = 65537;
 /// The number that follows in the sequence.
 fn next_number(x: u32) -> u32
     requires { x < MODULUS }
-    ensures next { result ≡ next_number x }
+    ensures next { result ≡ ((75 * x + 74) % 65537) }
     ensures bound { result < MODULUS }
 {
     (75 * x + 74) % MODULUS
@@ -31,15 +31,15 @@ impl Numbers {
     ghost use Rattle.std.specs.Prelude.{◌≡◌, ◌<◌, ◌≤◌};
     ghost use Rattle.std.specs.List.{join_with_byte};
     ghost use Rattle.arrayvec.specs.ArrayVec.{array_vec_len};
-    ghost use Rattle.sd_model_replay.specs.MadeScript.{next_number, made_lines};
+    ghost use Rattle.sd_model_replay.specs.MadeScript.{made_lines};
 
     /// The four numbers that follow the last one that was used.
     pub(crate) fn after(last: u32) -> Numbers
         requires { last < MODULUS }
-        ensures counter { result.counter ≡ next_number last }
-        ensures timer { result.timer ≡ next_number result.counter }
-        ensures gauge { result.gauge ≡ next_number result.timer }
-        ensures set { result.set ≡ next_number result.gauge }
+        ensures counter { result.counter ≡ ((75 * last + 74) % 65537) }
+        ensures timer { result.timer ≡ ((75 * result.counter + 74) % 65537) }
+        ensures gauge { result.gauge ≡ ((75 * result.timer + 74) % 65537) }
+        ensures set { result.set ≡ ((75 * result.gauge + 74) % 65537) }
         ensures bound { result.set < MODULUS }
     {
         let counter = next_number(last);

@@ -3,7 +3,7 @@ use Rattle.std.proofs.Common.{◌≡◌, ◌≢◌, ℕ, ◌+◌, ◌≤◌, Boo
 use Rattle.std.specs.Prelude.{sum_by}
 use Rattle.std.specs.FinMap.{retain_keys}
 use Rattle.sd_model_shard.specs.Rows as model
-use Rattle.sd_model_shard.specs.Rows.{RowId, Summary, is_listed, samples_in, samples_where, listed_in as samples_listed}
+use Rattle.sd_model_shard.specs.Rows.{RowId, Summary, is_listed, samples_in, samples_where}
 use Rattle.sd_model_shard.proofs.SumLemmas.{samples-parts}
 use Rattle.sd_key.specs.Kind.{kind_of}
 use Rattle.sd_rows.specs.Rows.{row_at}
@@ -27,6 +27,7 @@ use Rattle.sd_epoch.proofs.OrderLemmas.{ranked_different}
 use Rattle.sd_epoch.proofs.PlacedLemmas.{same_reported, same_places}
 use Rattle.sd_epoch.proofs.SumLemmas.{samples_reported, entries_are}
 use Rattle.sd_epoch.proofs.ReportedLemmas.{reported_left}
+use Rattle.sd_model_shard.proofs.Short.{listed_in as samples_listed}
 
 module _
     (t : Inside) (w : IsTable t) (gone : RowId → Bool) (rows : List (Option Row)) (order : Order) (values : Values) (members : Members)

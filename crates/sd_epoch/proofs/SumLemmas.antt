@@ -10,7 +10,7 @@ use Rattle.std.proofs.lemmas.Bool.{cases_eq, eq-eqb, ne_eqb}
 use Rattle.std.proofs.lemmas.List.{length-map}
 use Rattle.std.proofs.lemmas.List.Sums.{sum_by-append, sum_by-cons}
 use Rattle.sd_model_shard.specs.Rows as model
-use Rattle.sd_model_shard.specs.Rows.{RowId, row_cmp, Kept, Summary, is_same_row, is_listed, row_in, without_samples, samples_in, samples_where, listed_in as samples_listed}
+use Rattle.sd_model_shard.specs.Rows.{RowId, row_cmp, Kept, Summary, is_same_row, is_listed, row_in, without_samples, samples_in, samples_where}
 use Rattle.sd_model_shard.proofs.OrderLemmas.{sum_by-map}
 use Rattle.sd_model_shard.proofs.RowLemmas.{rows_exact, rows_total}
 use Rattle.sd_rows.specs.Rows.{row_at}
@@ -29,6 +29,7 @@ use Rattle.sd_epoch.proofs.ChainLemmas.{own}
 use Rattle.sd_epoch.proofs.ListingLemmas.{not_found, same_itself, same_row}
 use Rattle.sd_epoch.proofs.OrderLemmas.{different_head, different_tail}
 use Rattle.sd_epoch.proofs.PlaceLemmas.{id_here}
+use Rattle.sd_model_shard.proofs.Short.{listed_in as samples_listed}
 
 module _ (f : RowId × Kept → ℕ) where
   -- a row that is new

@@ -1,7 +1,7 @@
 ghost use Rattle.std.specs.Prelude.{◌≡◌, ◌+◌, ◌-◌, ◌*◌, ◌^◌, ◌<◌, ◌≤◌, ◌≢◌, unsigned_abs, slice_get, true, false, if◌then◌else◌, [], length, map, set, option_map, IfOk, IfSome, MatchOption, Some, None};
 ghost use Rattle.std.specs.FinMap.{len, contains_key, get, insert, remove};
 ghost use Rattle.sd_model_text.specs.Names.{Timer};
-ghost use Rattle.sd_model_shard.specs.Rows.{RowId, row_of, rows_left, rows_taken_out, amount_by, is_listed, listed_in, row_in, samples_in, touched, without_samples};
+ghost use Rattle.sd_model_shard.specs.Rows.{RowId, row_of, rows_left, rows_taken_out, amount_by, is_listed, row_in, samples_in, touched, without_samples, samples_where};
 ghost use Rattle.sd_key.specs.Kind.{kind_of};
 ghost use Rattle.sd_rows.specs.Rows.{row_at, row_seen, StandsNowhereElse, reset};
 ghost use Rattle.sd_rows.specs.RowMap.{copy_steps};
@@ -114,7 +114,7 @@ impl Table {
     /// How many of them have an entry: those of timers and sets.
     pub fn entries(&self) -> u32
         ensures entries { result ≡ self.now.entries }
-        ensures listed { self.now.entries ≡ listed_in (live_of self.now) }
+        ensures listed { self.now.entries ≡ samples_where (λ id. is_listed id.kind) (live_of self.now) }
         ensures within { result ≤ self.now.limits.entries }
     {
         (self.values.items.len() + self.members.items.len()) as u32
@@ -218,7 +218,7 @@ impl Table {
         ensures live { live_of self.new ≡ rows_left (kind_of kind) pattern.now (live_of self.old) }
         ensures samples { result ≡ samples_in (rows_taken_out (kind_of kind) pattern.now (live_of self.old)) }
         ensures held { self.new.held + result ≡ self.old.held }
-        ensures entries { self.new.entries + listed_in (rows_taken_out (kind_of kind) pattern.now (live_of self.old)) ≡ self.old.entries }
+        ensures entries { self.new.entries + samples_where (λ id. is_listed id.kind) (rows_taken_out (kind_of kind) pattern.now (live_of self.old)) ≡ self.old.entries }
         ensures limits { self.new.limits ≡ self.old.limits }
     {
         drop_hits(&mut self.rows, kind, pattern);

@@ -7,8 +7,7 @@ use Rattle.std.proofs.lemmas.List.Elements.{All-nil, All-append}
 use Rattle.std.proofs.lemmas.List.Sums.{sum_by-cons}
 use Rattle.sd_model_text.specs.Lines.{Sample, pieces, bad_of, reading, samples_of}
 use Rattle.sd_law_text.proofs.PieceCounts.{length-pieces}
-use Rattle.sd_model_shard.specs.History.{Act, History}
-use Rattle.sd_model_shard.specs.Whereabouts.{dropped_in}
+use Rattle.sd_model_shard.specs.History.{Act, History, dropped_in}
 use Rattle.sd_law_shard.specs.Sums.{taken_in}
 use Rattle.sd_model_serve.specs.Receiving.{asks, events_of, summed_in}
 use Rattle.sd_model_serve.proofs.ActsLemmas.{asks-append}

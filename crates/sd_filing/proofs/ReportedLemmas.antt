@@ -6,8 +6,7 @@ use Rattle.std.proofs.lemmas.List.{map-append}
 use Rattle.std.proofs.lemmas.List.Elements.{All-nil}
 use Rattle.std.proofs.lemmas.List.Sums.{sum_by-append}
 use Rattle.sd_model_shard.specs.Shard.{Reply}
-use Rattle.sd_model_shard.specs.History.{Act, History}
-use Rattle.sd_model_shard.specs.Whereabouts.{dropped_in, summed_by}
+use Rattle.sd_model_shard.specs.History.{Act, History, dropped_in, summed_by}
 use Rattle.sd_law_shard.specs.Sums.{taken_in}
 use Rattle.sd_model_shard.proofs.OrderLemmas.{weighed_once}
 use Rattle.sd_model_serve.specs.Receiving.{events_of, summed_in}

@@ -9,8 +9,7 @@ use Rattle.std.proofs.lemmas.List.Sums.{sum_by-cons}
 use Rattle.sd_model_text.specs.Names.{shard}
 use Rattle.sd_model_text.specs.Lines.{Sample}
 use Rattle.sd_model_shard.specs.Shard.{Submit}
-use Rattle.sd_model_shard.specs.History.{Act, History}
-use Rattle.sd_model_shard.specs.Whereabouts.{dropped_in}
+use Rattle.sd_model_shard.specs.History.{Act, History, dropped_in}
 use Rattle.sd_law_shard.specs.Sums.{taken_in}
 use Rattle.sd_model_shard.proofs.OrderLemmas.{weighed_once}
 use Rattle.sd_model_serve.specs.Receiving.{asks, events_of, summed_in}

@@ -3,8 +3,7 @@ use Rattle.std.specs.Prelude.{◌≡◌, ⊤, ℕ, ◌+◌, ◌<◌, ◌≤◌, 
 use Rattle.sd_model_text.specs.Names.{shard}
 use Rattle.sd_model_text.specs.Lines.{Sample, pieces, samples_of, bad_of}
 use Rattle.sd_model_shard.specs.Shard.{Submit}
-use Rattle.sd_model_shard.specs.History.{History, part_of}
-use Rattle.sd_model_shard.specs.Whereabouts.{dropped_in, summed_by}
+use Rattle.sd_model_shard.specs.History.{History, part_of, dropped_in, summed_by}
 use Rattle.sd_law_shard.specs.Sums.{taken_in}
 use Rattle.sd_model_serve.specs.Receiving.{asks, events_of, summed_in}
 use Rattle.sd_line.specs.declared.piece.Bad.{Bad}

@@ -11,7 +11,6 @@ use Rattle.sd_model_outside.proofs.DeliveryLemmas.{AfterDeliveries-push}
 use Rattle.sd_model_outside.proofs.TurnLemmas.{with_ticks-append}
 use Rattle.sd_model_shard.specs.History.{History}
 use Rattle.sd_model_record.specs.Desk.{Marks, counted}
-use Rattle.sd_model_record.specs.Totals.{Count, Amounts}
 use Rattle.sd_shared_desk.specs.Counts.{Part, HasCounted, nothing, plus, share}
 use Rattle.sd_model_record.specs.DeskHistory.{DeskCall}
 use Rattle.sd_model_record.specs.Backends.{Backend, Graphite, Console, mark_of}
@@ -24,6 +23,7 @@ use Rattle.sd_rows.specs.declared.row.Row.{Row}
 use Rattle.sd_pool.proofs.AlongLemmas.{AllByRecursion-append}
 use Rattle.sd_flush.specs.Flushing.{MakesRoundAt, uses_by}
 use Rattle.sd_model_serve.proofs.Short.{swap_of}
+use Rattle.sd_desk.specs.Sums.{Count, Amounts}
 
 -- what holds at each backend
 pub at_both : (P : Backend → Type 0) → P Graphite → P Console → (b : Backend) → P b

@@ -5,13 +5,12 @@ use Rattle.std.specs.List.{AllByRecursion}
 use Rattle.sd_model_outside.specs.Outside.{Object, Rose}
 use Rattle.sd_model_outside.specs.Uses.{Written, AfterMark, AfterDeliveries}
 use Rattle.sd_model_shard.specs.Shard.{Table}
-use Rattle.sd_model_shard.specs.History.{History}
-use Rattle.sd_model_record.specs.Totals.{Amounts}
+use Rattle.sd_model_shard.specs.History.{History, tables}
 use Rattle.sd_shared_desk.specs.Counts.{Part, HasCounted, plus, of_taken, of_marks}
 use Rattle.sd_model_record.specs.Backends.{Backend, mark_of}
 use Rattle.sd_pool.specs.Adding.{Adds}
-use Rattle.sd_model_shard.specs.Whereabouts.{tables}
 use Rattle.sd_model_serve.specs.Rounds.{RecordForm, MarksFit, Round, round_calls, round_deliveries, round_text, swaps_at}
+use Rattle.sd_desk.specs.Sums.{Amounts}
 
 -- the table of shard i among tables in the order of the shards, and an empty one past their end
 abbrev pub table_at : List Table → ℕ → Table

@@ -9,12 +9,12 @@ use Rattle.sd_model_text.specs.Numbers.{per_second, number_text}
 use Rattle.sd_model_settings.specs.Settings.{Names}
 use Rattle.sd_model_settings.specs.Entries.{sends}
 use Rattle.sd_model_record.specs.Record.{Row, CounterRow, TimerRow, GaugeRow, SetRow, TimerFigures, Tally, Record, Figure, whole_number, figures_of}
-use Rattle.sd_model_record.specs.Backends.{dotted, path_prefix, suffix, graphite_line, figure_line, row_lines, own_counter, tail_lines, graphite_text}
+use Rattle.sd_model_record.specs.Backends.{dotted, path_prefix, suffix, graphite_line, row_lines, own_counter, tail_lines, graphite_text}
 use Rattle.sd_graphite.specs.declared.path.Path.{Path}
 use Rattle.sd_graphite.specs.Texts.{path_text, timer_prefix, BeginsWith, rate_line, count_line, sent_line, gauge_line, set_line, row_texts, row_text, own_text, rows_line, tail_text}
 use Rattle.sd_text.specs.Rows.{rows_text}
 use Rattle.sd_text.proofs.RowLemmas.{concat-sent, flat_map-same}
-use Rattle.sd_model_record.proofs.Short.{rows_prefix}
+use Rattle.sd_model_record.proofs.Short.{rows_prefix, figure_line}
 
 -- the text of a path by its parts
 pub path_text-parts : (names : Names) (p : Path) (legacy prefix key back : List ℕ) → p.legacy.now ≡ legacy → p.prefix.now ≡ prefix → p.key.now ≡ key → p.back.now ≡ back → path_text names p ≡ path_prefix names legacy prefix ++ key ++ back

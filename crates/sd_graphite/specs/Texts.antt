@@ -4,7 +4,7 @@ use Rattle.sd_model_text.specs.Numbers.{number_text}
 use Rattle.sd_model_settings.specs.Settings.{Names}
 use Rattle.sd_model_settings.specs.Entries.{sends}
 use Rattle.sd_model_record.specs.Record.{Row, CounterRow, TimerRow, GaugeRow, SetRow, Record, Figure, figures_of}
-use Rattle.sd_model_record.specs.Backends.{path_prefix, graphite_line, counter_back, figure_line, row_lines, own_counter, tail_lines, dotted}
+use Rattle.sd_model_record.specs.Backends.{path_prefix, graphite_line, row_lines, own_counter, tail_lines, dotted}
 use Rattle.sd_graphite.specs.declared.path.Path.{Path}
 
 -- the text of a path
@@ -22,12 +22,12 @@ BeginsWith start text = take (length start) text ≡ start
 -- the line of a counter's count per second
 abbrev pub rate_line : Names → ℕ → List ℕ → ℤ → List ℕ
 rate_line names ts key rate =
-    graphite_line names (path_prefix names (codes "stats.") names.namespace.prefix_counter ++ key ++ counter_back names (codes ".rate")) (number_text rate) ts
+    graphite_line names (path_prefix names (codes "stats.") names.namespace.prefix_counter ++ key ++ (if names.namespace.legacy then [] else (codes ".rate"))) (number_text rate) ts
 
 -- the line of a counter's count
 abbrev pub count_line : Names → ℕ → List ℕ → ℤ → List ℕ
 count_line names ts key count =
-    graphite_line names (path_prefix names (codes "stats_counts.") names.namespace.prefix_counter ++ key ++ counter_back names (codes ".count")) (number_text count) ts
+    graphite_line names (path_prefix names (codes "stats_counts.") names.namespace.prefix_counter ++ key ++ (if names.namespace.legacy then [] else (codes ".count"))) (number_text count) ts
 
 -- the line of a gauge
 abbrev pub gauge_line : Names → ℕ → List ℕ → ℤ → List ℕ
@@ -41,7 +41,7 @@ set_line names ts key count =
 
 -- the line of a timer's figure, or nothing where its class isn't sent
 abbrev pub sent_line : Names → List (List ℕ) → ℕ → List ℕ → Figure → List ℕ
-sent_line names calculated ts key f = if sends calculated f.class then figure_line names ts key f else []
+sent_line names calculated ts key f = if sends calculated f.class then graphite_line names (path_prefix names (codes "stats.timers.") names.namespace.prefix_timer ++ key ++ 46 ∷ f.name) (number_text f.value) ts else []
 
 -- the lines of a row, one by one
 unfoldable pub row_texts : Names → List (List ℕ) → ℕ → Row → List (List ℕ)

@@ -1,7 +1,8 @@
-ghost use Rattle.std.specs.Prelude.{◌≡◌, ◌≢◌, ◌<◌, ◌≤◌, [], length, IsTrue};
+ghost use Rattle.std.specs.Prelude.{◌≡◌, ◌≢◌, ◌<◌, ◌≤◌, [], length, IsTrue, if◌then◌else◌, codes, ◌∷◌, ◌++◌};
 ghost use Rattle.arrayvec.specs.ArrayVec.{array_vec_len};
-ghost use Rattle.sd_model_record.specs.Backends.{counter_back, figure_line};
 ghost use Rattle.sd_graphite.specs.Texts.{path_text, timer_prefix, BeginsWith, rate_line, count_line, sent_line, gauge_line, set_line};
+ghost use Rattle.sd_model_text.specs.Numbers.{number_text};
+ghost use Rattle.sd_model_record.specs.Backends.{graphite_line, path_prefix};
 
 use crate::line::{begin, end, keep, put_path};
 use crate::path::Path;
@@ -67,7 +68,7 @@ impl<'a> RowText for GraphiteRows<'a> {
 /// What stands behind a counter's key, which has nothing behind it in the legacy namespace.
 fn counter_back<'a>(names: &Names, back: &'a [u8]) -> &'a [u8]
     requires { length back.now ≤ 6 }
-    ensures text { result.now ≡ counter_back names.now back.now }
+    ensures text { result.now ≡ (if names.now.namespace.legacy then [] else back.now) }
     ensures short { length result.now ≤ 6 }
 {
     if names.namespace().legacy { b"" } else { back }
@@ -143,7 +144,7 @@ fn put_figure(
     line: &mut Line,
 )
     requires { IsTrue is_begun → BeginsWith (timer_prefix names.now key.now) line.old.items }
-    ensures { line.new.items ≡ figure_line names.now second.now key.now figure.now }
+    ensures { line.new.items ≡ graphite_line names.now (path_prefix names.now (codes "stats.timers.") names.now.namespace.prefix_timer ++ key.now ++ 46 ∷ figure.now.name) (number_text figure.now.value) second.now }
 {
     begin_figure(key, names, is_begun, line);
     figure.push_name(line);

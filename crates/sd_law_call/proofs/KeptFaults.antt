@@ -2,7 +2,7 @@
 use Rattle.std.proofs.Common.{◌≡◌, ℕ, zero, suc, ◌≤◌, List, [], ◌∷◌, set, refl, sym, ap, subst, ◌∙◌, arith, Option, Some, None, inl, inr}
 use Rattle.sd_model_outside.specs.Outside.{Place, File, Object, Used, HasRead, opened, object_at}
 use Rattle.sd_model_record.specs.Backends.{Graphite, Console}
-use Rattle.sd_model_replay.specs.Replay.{deliveries, sendings}
+use Rattle.sd_model_replay.specs.Replay.{deliveries}
 use Rattle.sd_model_replay.specs.AccountingTheorem.{ReplayTrace, AccountingTheorem, End, Complete, Faulted, ReadFailed, WriteFailed, LimitReached, OutputAfter}
 use Rattle.sd_model_call.specs.Drill.{drill_text}
 use Rattle.sd_model_call.specs.Call.{Form, Replay, Serve, Proxy, Drill, form, Account, Answer, Done, Answers, Accounts, HasReplayed, IsNotTaken, NotBegun, NotTaken, StopsAmong, WritesTotals}
@@ -15,6 +15,7 @@ use Rattle.sd_law_call.proofs.CallEnds.{replayed}
 use Rattle.sd_model_settings.specs.Settings.{Settings}
 use Rattle.sd_model_call.proofs.Short.{OnlyOutput, IsLeftOff, AnswersReplay}
 use Rattle.sd_model_outside.proofs.Short.{sends_on}
+use Rattle.sd_model_replay.proofs.Short.{sendings}
 
 pub record Kept (old new : World) : Type 0 where
   pub settings : old.settings.faults ≤ new.settings.faults

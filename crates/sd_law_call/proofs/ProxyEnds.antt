@@ -6,9 +6,8 @@ use Rattle.std.proofs.lemmas.List.{length-map}
 use Rattle.sd_model_outside.specs.Outside.{File, Host, Datagrams, Object, Rose, last_count, object_at}
 use Rattle.sd_model_settings.specs.Entries.{Node}
 use Rattle.sd_model_settings.specs.Settings.{Settings, SettingsFlaw, settings}
-use Rattle.sd_model_serve.specs.Receiving.{LoopEnd, Spent, Failed, Enough, LimitReached, EndsFlusher, most_turns}
+use Rattle.sd_model_serve.specs.Receiving.{LoopEnd, Spent, Failed, Enough, LimitReached, EndsFlusher, EndsReceiver, most_turns}
 use Rattle.sd_model_proxy.specs.Relays.{Relay}
-use Rattle.sd_model_live.specs.Proxy.{EndsChecker}
 use Rattle.sd_model_live.specs.Port.{has_port}
 use Rattle.sd_model_call.specs.Call.{Form, Proxy, form, Answer, Done, NoMemory, NoForm, Misset, BadScript, NotOpened, NotRead, NotWritten, Worn, WritesTotals}
 use Rattle.sd_model_call.specs.Opening.{World, Opening, Part, OfSettings, OfScript, OfSource, OfBeat, OfWire, OfGraphite, OfConsole, OfDoor, OfStreams, IsAccepted, IsFlawed, numbered, repeated, settled}
@@ -45,17 +44,17 @@ looped most nodes (r ∷ rs) (s ∷ ss) (n ∷ ns) ws wn h = (
 )
 
 -- the end of a checker is one of a flusher of which no flushes are asked
-as_flusher : (made : ℕ) (ended : LoopEnd) (beat beat_now : Object) → EndsChecker ended beat beat_now made → EndsFlusher 0 ended beat beat_now made
+as_flusher : (made : ℕ) (ended : LoopEnd) (beat beat_now : Object) → EndsReceiver 0 ended beat beat_now 0 made → EndsFlusher 0 ended beat beat_now made
 as_flusher made Spent beat beat_now h = (h.0, h.1, λ some. absurd (omega (arith, some)))
 as_flusher made Failed beat beat_now h = (h.0, λ some. absurd (omega (arith, some)))
-as_flusher made (Enough flushes) beat beat_now h = absurd h
+as_flusher made (Enough flushes) beat beat_now h = absurd (omega (arith, h.0))
 as_flusher made (LimitReached turns) beat beat_now h = (h.0, h.1 ∙ sym h.0, h.2, λ some. absurd (omega (arith, some)))
 
 -- a beat whose checker took the most turns
-beat_reached_limit : (made : ℕ) (ended : LoopEnd) (beat beat_now : Object) → EndsChecker ended beat beat_now made → beat_now.turns ≡ min (beat.turns + made) last_count → list_any reached_limit (ended ∷ []) ≡ true → SourceTookMost beat beat_now
+beat_reached_limit : (made : ℕ) (ended : LoopEnd) (beat beat_now : Object) → EndsReceiver 0 ended beat beat_now 0 made → beat_now.turns ≡ min (beat.turns + made) last_count → list_any reached_limit (ended ∷ []) ≡ true → SourceTookMost beat beat_now
 beat_reached_limit made Spent beat beat_now h turns is = absurd (cc)
 beat_reached_limit made Failed beat beat_now h turns is = absurd (cc)
-beat_reached_limit made (Enough flushes) beat beat_now h turns is = absurd h
+beat_reached_limit made (Enough flushes) beat beat_now h turns is = absurd (cc)
 beat_reached_limit made (LimitReached n) beat beat_now h turns is = turns ∙ ap (λ k. min (beat.turns + k) last_count) h.1
 
 module _ (name : List ℕ) (answer : Answer) (old new : World) (h : HasProxied name answer old new) where

@@ -6,7 +6,7 @@ use Rattle.std.proofs.lemmas.List.{length-map}
 use Rattle.std.proofs.lemmas.List.Sums.{sum_by-cons}
 use Rattle.sd_model_outside.specs.Outside.{Content, Unknown, Left, Number, Bytes, Buffer, Rounds, Packets, Datagrams, Ticks, Sessions, Replies, Rose, put_back, given, last_count, object_at}
 use Rattle.sd_model_outside.specs.Uses.{Mark, fault_of, Delivery, AfterDeliveries, FitsUse, missed, AreRepeated}
-use Rattle.sd_model_replay.specs.Replay.{bounds_of, is_used, targets_of, Outcome, Played, Run, IsOutcome, first_run, run_of, play, deliveries, sendings}
+use Rattle.sd_model_replay.specs.Replay.{bounds_of, is_used, targets_of, Outcome, Played, Run, IsOutcome, first_run, run_of, play, deliveries}
 use Rattle.sd_model_record.specs.Backends.{Backend, Graphite, Console, mark_of}
 use Rattle.sd_model_replay.specs.Script.{ScriptCommand, Packet, Flush, Admin, spelled, end_word, script_text, IsLegal, BeginsEnd, ScriptFlaw, Next, Executed, Ending, Faulty, Begins}
 use Rattle.sd_law_call.specs.Behind.{BeginsRecord, behind}
@@ -24,7 +24,7 @@ use Rattle.sd_model_outside.proofs.DeliveryLemmas.{all_counts, none_missed, writ
 use Rattle.sd_model_replay.proofs.ReplayLemmas.{delivery_of}
 use Rattle.sd_law_record.proofs.SendLemmas.{failed_among-sends_on, sends_count}
 use Rattle.sd_model_settings.specs.Settings.{Settings}
-use Rattle.sd_model_replay.proofs.Short.{rounds_from}
+use Rattle.sd_model_replay.proofs.Short.{rounds_from, sendings}
 use Rattle.sd_model_serve.specs.Receiving.{most_turns}
 use Rattle.sd_model_call.proofs.Short.{well_mark, well_sent}
 use Rattle.sd_model_outside.proofs.Short.{sends_on}

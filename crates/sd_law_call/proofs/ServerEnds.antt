@@ -1,6 +1,7 @@
 -- How a call answers that is asked to serve, where nothing hinders it, and what its answers say of its objects.
 use Rattle.std.proofs.Common.{◌≡◌, ◌⊎◌, ℕ, ◌+◌, ◌<◌, ◌≤◌, Bool, true, false, List, [], ◌∷◌, ◌++◌, length, map, drop, refl, sym, ap, subst, ◌∙◌, Option, Ok, Err, inl, inr, arith, length-append}
-use Rattle.std.specs.Prelude.{◌||◌, min}
+use Rattle.std.specs.Prelude.{◌||◌, min, slice_index}
+use Rattle.sd_model_shard.specs.Shard.{last_number}
 use Rattle.std.specs.List.{AllByRecursion, list_any}
 use Rattle.std.proofs.Math.Bool.{or-false}
 use Rattle.std.proofs.lemmas.List.{length-map}
@@ -14,7 +15,7 @@ use Rattle.sd_model_run.specs.Run.{ServerTrace, AreLineTraces, rounds_in}
 use Rattle.sd_model_call.specs.Call.{Form, Serve, form, Answer, Done, NoMemory, NoForm, Misset, BadScript, NotOpened, NotRead, NotWritten, Worn, WritesTotals}
 use Rattle.sd_model_call.specs.Opening.{World, Opening, Part, OfSettings, OfScript, OfSource, OfBeat, OfWire, OfGraphite, OfConsole, OfDoor, OfStreams, IsAccepted, IsFlawed, opening_where, repeated, settled, wire_openings}
 use Rattle.sd_law_call.specs.Completeness.{IsWhole, IsBlocked}
-use Rattle.sd_model_record.specs.Totals.{totals_text, RoundsMade}
+use Rattle.sd_model_record.specs.Totals.{totals_text}
 use Rattle.sd_model_call.specs.Server.{AnswersServer, HasServed, ServerAccounts, door_openings, has_streams, reached_limit, run_totals, server_openings, source_openings}
 use Rattle.sd_law_call.specs.ServerCompleteness.{AStreamTookMost, AreAllSpent, AsksFor, HasFaultOf, IsCauseOf, IsOpenedToServe, IsOutermost, IsServed, IsUnhinderedServer, NoneFailed, OneTookMost, TookMost}
 use Rattle.sd_law_call.proofs.BegunLemmas.{Same, all_numbered, accepted_so, at_same, has_flaw, none_failed, not_begun, not_taken, same_start, uncut}
@@ -223,7 +224,7 @@ module _ (name : List ℕ) (says : ℕ → Type 0) (old new : World) (h : HasSer
   -- the desk tells no more rounds than there were
   pub short_spent : IsShort wanted (length (rounds_in h.trace)) → AreAllSpent h.values.sizes.receivers (has_streams h.values) new
   short_spent short =
-      let is = h.theorem.run.counted RoundsMade in
+      let is : h.trace.desk.facts.rounds ≡ min (length (rounds_in h.trace)) last_number = ap (λ (numbers : List ℕ). slice_index numbers 8) h.theorem.run.counted in
       let ticks = length-append h.trace.ticked (h.trace.last ∷ []) in
       all_of (λ some. let less = short some in omega (arith, less, is)) (λ some. let less = short some in omega (arith, less, ticks))
 

@@ -1,10 +1,10 @@
 -- What a call has to come to, by its words, what its objects tell, and where no fault was counted.
-use Rattle.std.specs.Prelude.{Option, Some, ⊤, ◌≡◌, ◌⊎◌, ℕ, ◌<◌, IsTrue, List, [], ◌++◌, length, map, None, Result, Ok, Err}
+use Rattle.std.specs.Prelude.{Option, Some, ⊤, ◌≡◌, ◌⊎◌, ℕ, ◌<◌, IsTrue, List, [], ◌++◌, length, map, None, Result, Ok, Err, filter_map}
 use Rattle.sd_model_call.specs.Call.{Form, Serve, Proxy, Replay, form, Answer, NoMemory, Misset, NotOpened, NotRead, NotWritten}
 use Rattle.std.specs.List.{AllByRecursion}
 use Rattle.sd_model_outside.specs.Outside.{Left, Rose, given, object_at}
 use Rattle.sd_model_outside.specs.Uses.{AfterDeliveries, AreRepeated}
-use Rattle.sd_model_replay.specs.Replay.{is_used, targets_of, deliveries, sendings}
+use Rattle.sd_model_replay.specs.Replay.{is_used, targets_of, deliveries, sending_by}
 use Rattle.sd_model_record.specs.Backends.{Backend}
 use Rattle.sd_model_replay.specs.Script.{ScriptCommand, end_word, script_text, IsLegal, ScriptFlaw, Faulty, Begins}
 use Rattle.sd_model_call.specs.Drill.{well}
@@ -112,5 +112,5 @@ pub record WasExecuted (settings : Settings) (old new : Seen) (commands : List S
 -- target got each packet, and the output got their replies and then their totals
 pub record WasExecutedWell (settings : Settings) (old new : Seen) (commands : List ScriptCommand) : Type 0 where
   pub backends : (back : Backend) → AfterDeliveries (deliveries settings back (map (well settings) commands)) (seen_at back old) (seen_at back new)
-  pub wires : AreRepeated (sendings (map (well settings) commands)) old.wires new.wires
+  pub wires : AreRepeated (filter_map (λ p. sending_by p.command p.outcome) (map (well settings) commands)) old.wires new.wires
   pub output : (let played = map (well settings) commands in new.output ≡ given (output_of settings played ++ totals_text (totals_after settings played)) old.output)

@@ -3,9 +3,8 @@ use Rattle.std.proofs.Common.{◌≡◌, ℕ, zero, suc, ◌+◌, ◌≤◌, ◌
 use Rattle.std.specs.List.{AllByRecursion, range_with_len}
 use Rattle.std.proofs.lemmas.List.{get_or-map, length-map}
 use Rattle.sd_model_shard.specs.Shard.{Limits, Policy, Table}
-use Rattle.sd_model_shard.specs.History.{History, Legal}
+use Rattle.sd_model_shard.specs.History.{History, Legal, AreDocumented, Flushed, flushes, tables}
 use Rattle.sd_model_shard.specs.Rows.{Tell}
-use Rattle.sd_model_shard.specs.Whereabouts.{AreDocumented, Flushed, flushes, tables}
 use Rattle.sd_law_shard.proofs.HistoryLemmas.{accounted, are_documented, rows_kept}
 use Rattle.sd_model_record.specs.Record.{record_rows, documented_rows}
 use Rattle.sd_law_record.specs.Tell.{AllTell}

@@ -5,30 +5,22 @@ use Rattle.std.specs.Cmp.{tied_itself}
 use Rattle.std.specs.FinMap.{find, is_sorted, entries, entries_sorted, from_entries, get-entries}
 use Rattle.std.specs.FinMap.Entries.{below_all}
 use Rattle.std.specs.Ordering.{eq_by_cmp, is_eq}
-use Rattle.sd_model_text.specs.Names.{Kind, Counter, Timer, Gauge, Set}
 use Rattle.sd_model_settings.specs.Settings.{Plan}
 use Rattle.sd_model_shard.specs.Rows.{RowId, row_cmp, Summary, Kept, Entry, Tell}
-use Rattle.sd_model_shard.specs.Whereabouts.{Flushed}
+use Rattle.sd_model_shard.specs.History.{Flushed}
 use Rattle.sd_model_shard.proofs.RowLemmas.{rows_total}
 use Rattle.sd_model_shard.proofs.EntryLemmas.{and_second, found_behind}
-use Rattle.sd_model_record.specs.Record.{Row, row_of_kind, record_rows, documented_by, documented_rows}
+use Rattle.sd_model_record.specs.Record.{Row, row_of_kind, record_rows, documented_rows}
 use Rattle.sd_law_record.specs.Tell.{AllTell}
 use Rattle.sd_model_record.proofs.Short.{table_rows, row_value, documented_in}
 use Rattle.sd_model_shard.proofs.Short.{statistics_of}
 
 module _ (plan : Plan) where
-  by_kind : (kind : Kind) (key : List ℕ) (base : ℤ) (journal : List Entry)
-      → row_of_kind kind plan key (statistics_of (record { kind = kind; key = key }) base journal) ≡ documented_by kind plan journal (record { kind = kind; key = key }) base
-  by_kind Counter key base journal = refl
-  by_kind Timer key base journal = refl
-  by_kind Gauge key base journal = refl
-  by_kind Set key base journal = refl
-
-  one_row : (journal : List Entry) (id : RowId) (kept : Kept) → kept.since ≡ statistics_of id kept.base journal → row_value plan id kept ≡ documented_by id.kind plan journal id kept.base
-  one_row journal id kept reported = ap (row_of_kind id.kind plan id.key) reported ∙ by_kind id.kind id.key kept.base journal
+  one_row : (journal : List Entry) (id : RowId) (kept : Kept) → kept.since ≡ statistics_of id kept.base journal → row_value plan id kept ≡ row_of_kind id.kind plan id.key (statistics_of id kept.base journal)
+  one_row journal id kept reported = ap (row_of_kind id.kind plan id.key) reported
 
   each_row : (journal : List Entry) (es : List (RowId × Kept)) → T (is_sorted row_cmp es) → ((q : RowId) (kept : Kept) → find row_cmp q es ≡ Some kept → kept.since ≡ statistics_of q kept.base journal)
-      → map {B = RowId × Row} (λ (e : RowId × Kept). (e.0, row_value plan e.0 e.1)) es ≡ map {B = RowId × Row} (λ (e : RowId × Kept). (e.0, documented_by e.0.kind plan journal e.0 e.1.base)) es
+      → map {B = RowId × Row} (λ (e : RowId × Kept). (e.0, row_value plan e.0 e.1)) es ≡ map {B = RowId × Row} (λ (e : RowId × Kept). (e.0, row_of_kind e.0.kind plan e.0.key (statistics_of e.0 e.1.base journal))) es
   each_row journal [] h reported = refl
   each_row journal (e ∷ es) h reported =
       let here = one_row journal e.0 e.1 (reported e.0 e.1 (ap (λ o. cond (is_eq o) (Some e.1) (find row_cmp e.0 es)) (tied_itself rows_total e.0))) in

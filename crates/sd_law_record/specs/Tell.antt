@@ -2,7 +2,7 @@
 use Rattle.std.specs.Prelude.{List}
 use Rattle.std.specs.List.{AllByRecursion}
 use Rattle.sd_model_shard.specs.Rows.{Tell}
-use Rattle.sd_model_shard.specs.Whereabouts.{Flushed}
+use Rattle.sd_model_shard.specs.History.{Flushed}
 
 -- each table tells its journal
 abbrev pub AllTell : List Flushed → Type 0

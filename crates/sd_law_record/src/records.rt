@@ -1,6 +1,6 @@
 ghost use Rattle.std.specs.Prelude.{◌≡◌, List, map};
 ghost use Rattle.sd_model_settings.specs.Settings.{Plan};
-ghost use Rattle.sd_model_shard.specs.Whereabouts.{Flushed};
+ghost use Rattle.sd_model_shard.specs.History.{Flushed};
 ghost use Rattle.sd_model_record.specs.Record.{record_rows, documented_rows};
 ghost use Rattle.sd_law_record.specs.Tell.{AllTell};
 

@@ -1,7 +1,6 @@
 ghost use Rattle.std.specs.Prelude.{◌≡◌, ℕ, ◌<◌, List, map};
 ghost use Rattle.sd_model_shard.specs.Shard.{Limits, Policy};
-ghost use Rattle.sd_model_shard.specs.History.{History, Legal};
-ghost use Rattle.sd_model_shard.specs.Whereabouts.{tables};
+ghost use Rattle.sd_model_shard.specs.History.{History, Legal, tables};
 ghost use Rattle.sd_model_serve.specs.Rounds.{AreAccounted, RecordForm, Round};
 
 /// Histories that are legal, and hand out the tables of rounds, account for all samples, and the records of the rounds are

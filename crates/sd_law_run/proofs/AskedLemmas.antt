@@ -7,23 +7,21 @@ use Rattle.std.proofs.lemmas.List.Elements.{filter-append}
 use Rattle.std.proofs.lemmas.List.FromFn.{get_or-map-range_with_len, length-range_with_len}
 use Rattle.sd_model_text.specs.Lines.{Sample, samples_of}
 use Rattle.sd_model_shard.specs.Shard.{State, Limits, Policy, Event, Submit, Swap, step}
-use Rattle.sd_model_shard.specs.History.{Act, History, Asked, answered, part_of}
-use Rattle.sd_model_shard.specs.Whereabouts.{Arrival}
+use Rattle.sd_model_shard.specs.History.{Act, History, Asked, answered, part_of, Arrival}
 use Rattle.sd_model_shard.proofs.AnsweredLemmas.{answered-append}
 use Rattle.sd_model_record.specs.Admin as admin
-use Rattle.sd_model_serve.specs.Receiving.{flusher, administrator, acts_by, asks, events_of}
+use Rattle.sd_model_serve.specs.Receiving.{flusher, administrator, acts_by, asks, events_of, Broadcast}
 use Rattle.sd_model_record.specs.Replies.{admin_events}
 use Rattle.sd_model_serve.specs.Rounds.{Round, swaps_at, Ran}
-use Rattle.sd_model_serve.specs.Sessions as sessions
-use Rattle.sd_model_serve.specs.Sessions.{Broadcast}
+use Rattle.sd_model_serve.specs.Receiving as sessions
 use Rattle.sd_model_serve.proofs.ActsLemmas.{asks-append}
-use Rattle.sd_model_replay.specs.Replay.{Bounds, Outcome, Played, Run, acts_of_record, events_of_record, first_run, history_at, home_of, play, round_by, rounds, samples_at, samples_of_record}
+use Rattle.sd_model_replay.specs.Replay.{Bounds, Outcome, Played, Run, acts_of_record, events_of_record, first_run, history_at, home_of, play, round_by, rounds, samples_of_record}
 use Rattle.sd_model_replay.specs.Script.{ScriptCommand, Packet, Flush, Admin, IsLegal}
 use Rattle.sd_model_replay.specs.AccountingTheorem.{broadcasts, broadcasts_in}
 use Rattle.sd_law_run.specs.Asked.{asked_from, asked_in, brought_by, brought_in}
 use Rattle.sd_model_replay.proofs.AccountingLemmas.{legal}
 use Rattle.sd_model_replay.proofs.HistoryLemmas.{tables-history_at}
-use Rattle.sd_model_replay.proofs.Short.{events_at, rounds_from}
+use Rattle.sd_model_replay.proofs.Short.{events_at, rounds_from, samples_at}
 use Rattle.sd_model_serve.proofs.Short.{events_by}
 use Rattle.sd_model_shard.proofs.Short.{act_of}
 

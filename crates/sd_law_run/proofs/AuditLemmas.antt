@@ -4,13 +4,12 @@ use Rattle.std.specs.Prelude.{min, sum_by}
 use Rattle.std.specs.List.{range_with_len}
 use Rattle.std.proofs.lemmas.List.Sums.{sum_by-cons}
 use Rattle.sd_model_settings.specs.Settings as file
-use Rattle.sd_model_shard.specs.History.{state_after}
+use Rattle.sd_model_shard.specs.History.{state_after, dropped_in, summed_by}
 use Rattle.sd_model_shard.specs.Shard.{State, last_number}
-use Rattle.sd_model_shard.specs.Whereabouts.{dropped_in, summed_by}
 use Rattle.sd_law_shard.specs.Sums.{taken_in}
 use Rattle.sd_law_shard.proofs.NumberLemmas.{sums_are_reported}
 use Rattle.sd_model_replay.specs.Replay.{limits_of, policy_of}
-use Rattle.sd_model_serve.specs.Doors.{asked_by}
+use Rattle.sd_model_serve.specs.Sessions.{asked_by}
 use Rattle.sd_session.specs.Commands.{AreCommands}
 use Rattle.sd_session.proofs.CommandLemmas.{visits_commands}
 use Rattle.sd_model_serve.proofs.ServedLemmas.{events_of_acts}

@@ -10,12 +10,12 @@ use Rattle.sd_model_text.specs.Lists.{Lacks}
 use Rattle.sd_model_text.proofs.Cuts.{same_cut}
 use Rattle.sd_model_text.proofs.Digits.{Lacks-decimal}
 use Rattle.sd_model_outside.specs.Outside.{Content, IsAtEnd}
-use Rattle.sd_model_replay.specs.Script.{Head, PacketHead, FlushHead, AdminHead, EndHead, Body, head_line, body_of, IsReceiver, IsMoment, IsForm, BadWord, BadLength, CutShort, Next, Faulty, HasBody, IsPart, IsWrong, IsUndecided, Begins}
+use Rattle.sd_model_replay.specs.Script.{Head, PacketHead, FlushHead, AdminHead, EndHead, Body, head_line, body_of, IsReceiver, IsMoment, IsForm, BadWord, BadLength, CutShort, Next, Faulty, HasBody, IsWrong, IsUndecided, Begins}
 use Rattle.sd_script.specs.Next.{IsWhole}
 use Rattle.sd_model_replay.proofs.LineLemmas.{Lacks-cons, uncut, first_byte}
 use Rattle.sd_script.proofs.NextLemmas.{whole_next, body_stands, line_stands, begins_before}
 use Rattle.sd_model_replay.proofs.Numbers.{IsWritten, IsWritten-from, number_written}
-use Rattle.sd_model_replay.proofs.Short.{IsOver, IsCount}
+use Rattle.sd_model_replay.proofs.Short.{IsOver, IsCount, IsPart}
 
 -- a list that is cut at the first of a byte
 record Split (byte : ℕ) (xs : List ℕ) : Type 0 where

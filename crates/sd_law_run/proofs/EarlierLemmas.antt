@@ -17,7 +17,8 @@ use Rattle.toml.specs.Data.{Data, integer, Members, no_members, member, get_memb
 use Rattle.sd_model_settings.specs.Values.{members}
 use Rattle.sd_model_settings.specs.Entries.{Whole, Share, Value, read_as}
 use Rattle.sd_model_settings.specs.Table.{SettingTable, Values, Then, FlushRules, Transport, Sizes, setting_names, sizes_by, sizes, flush_rules, transport}
-use Rattle.sd_model_settings.specs.Settings.{names, first_unknown, unknown_inside, unknown, top_names, SettingsFlaw, ◌>>=◌, in_force, Section, found, read, Tables, setting_tables, top, Settings, settings_in, unless_unknown, document, settings_by, settings}
+use Rattle.sd_model_settings.specs.Settings.{names, first_unknown, unknown_inside, unknown, top_names, SettingsFlaw, in_force, Section, found, read, Tables, setting_tables, top, Settings, settings_in, unless_unknown, document, settings_by, settings}
+use Rattle.sd_model_text.specs.Lists.{◌>>=◌}
 use Rattle.sd_law_run.specs.Earlier.{earlier_rules, earlier_transport, without, names_since_ttl, names_since_outlets, names_since_sums, names_since_batches, tables_without, earlier_settings, settings_before_outlets, settings_before_sums, settings_before_batches}
 use Rattle.sd_law_settings.specs.Ranges.{IsWithin}
 use Rattle.sd_law_settings.proofs.ValuesInRange.{bind_in_range, found_in_range, whole_in_range}

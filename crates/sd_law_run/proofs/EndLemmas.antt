@@ -7,7 +7,7 @@ use Rattle.std.proofs.lemmas.List.Folds.{list_any-append}
 use Rattle.sd_law_text.specs.Bytes.{has_byte}
 use Rattle.sd_model_text.specs.Names.{Kind}
 use Rattle.sd_model_settings.specs.Settings as file
-use Rattle.sd_model_settings.specs.ConfigText.{config_line, config_lines, first_lines, back_lines, histogram_line, repeater_line, node_line}
+use Rattle.sd_model_settings.specs.ConfigText.{config_line, config_lines, back_lines, first_lines}
 use Rattle.sd_model_shard.specs.Rows.{DumpRow}
 use Rattle.sd_model_shard.specs.Shard as shard
 use Rattle.sd_model_shard.specs.Shard.{Numbers}
@@ -16,7 +16,7 @@ use Rattle.sd_model_record.specs.Admin.{AdminFault, UnknownWord, MissingName, To
 use Rattle.sd_model_record.specs.Desk.{Facts}
 use Rattle.sd_model_record.specs.Totals.{known_before_end, total_line, totals_of}
 use Rattle.sd_model_record.specs.Replies.{Finish, end_lines, stats_lines, shard_lines, shown_value, gone_lines, fault_line, reply_lines, replies_by, names_replied, health_after}
-use Rattle.sd_model_settings.proofs.Short.{entry_lines}
+use Rattle.sd_model_settings.proofs.Short.{entry_lines, histogram_line, repeater_line, node_line}
 use Rattle.sd_model_record.proofs.Short.{health_line, row_line, numbers_reported, added, shard_line, keys_reported, rows_reported, totals_lines}
 
 -- a line isn't `END`

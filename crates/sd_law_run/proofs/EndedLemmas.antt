@@ -4,10 +4,11 @@ use Rattle.std.specs.Prelude.{flat_map}
 use Rattle.std.specs.List.{concat}
 use Rattle.std.proofs.Math.Seq.{drop-append_seam}
 use Rattle.std.proofs.lemmas.Bool.{or_from}
-use Rattle.sd_model_stream.specs.Streams.{StreamLine, cut_of, stream_lines}
+use Rattle.sd_model_stream.specs.Streams.{StreamLine, stream_lines}
 use Rattle.sd_tcp.specs.Cutting.{rest_of}
 use Rattle.sd_tcp.proofs.SplitLemmas.{lines-ended, lines-grown}
 use Rattle.sd_model_proxy.specs.Relays.{lines_ended}
+use Rattle.sd_model_stream.proofs.Short.{cut_of}
 
 -- the lines of a stream with a byte more
 one_byte : (b : Bool) (stream : List ℕ) (x : ℕ) → eqb x 10 ≡ b → (more : List StreamLine) × (stream_lines (stream ++ x ∷ []) ≡ stream_lines stream ++ more)

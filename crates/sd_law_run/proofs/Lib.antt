@@ -11,3 +11,4 @@ pub mod NodeLemmas
 pub mod RunAudit
 pub mod SentLemmas
 pub mod StreamLemmas
+pub mod ReportedLemmas

@@ -8,14 +8,12 @@ use Rattle.std.proofs.lemmas.List.Sums.{sum_by-cons}
 use Rattle.sd_model_text.specs.Lines.{Sample}
 use Rattle.sd_model_text.specs.Names.{shard}
 use Rattle.sd_model_shard.specs.Shard.{Cause, Limits, Policy, State, Event, Reply, Submit, Swap, Delete, Dump, Look, admitted, refusal, step}
-use Rattle.sd_model_shard.specs.History.{Act, History, LegalFrom, after, part_of}
-use Rattle.sd_model_shard.specs.Whereabouts.{dropped_in, summed_by}
+use Rattle.sd_model_shard.specs.History.{Act, History, LegalFrom, after, part_of, dropped_in, summed_by}
 use Rattle.sd_law_shard.specs.Sums.{taken_in}
 use Rattle.sd_model_shard.proofs.OrderLemmas.{sum_by-map, weighed_once}
-use Rattle.sd_model_serve.specs.Receiving.{acts_by, administrator, asks, events_of, flusher, summed_in}
+use Rattle.sd_model_serve.specs.Receiving.{acts_by, administrator, asks, events_of, flusher, summed_in, Broadcast, acts_in}
 use Rattle.sd_model_serve.specs.Rounds.{Ran, Round, swaps_at}
 use Rattle.sd_session.specs.Commands.{AreCommands}
-use Rattle.sd_model_serve.specs.Sessions.{Broadcast, acts_in}
 use Rattle.sd_model_run.proofs.CountedLemmas.{sum_by-across, sum_by-alike, sum_by-nothing, sum_by-range}
 use Rattle.sd_model_serve.proofs.Short.{events_by}
 

@@ -7,9 +7,9 @@ use Rattle.std.proofs.lemmas.List.Sums.{length-filter, sum_by-cons}
 use Rattle.sd_model_settings.specs.Entries.{Node}
 use Rattle.sd_model_outside.specs.Uses.{WireSend}
 use Rattle.sd_law_record.specs.Sends.{failed_among, packets_of}
-use Rattle.sd_model_proxy.specs.Routes.{AreBatched, Batch, Batched, batches, lines_not_sent, lines_sent, over_nodes, send_of, Read}
+use Rattle.sd_model_proxy.specs.Routes.{AreBatched, Batch, Batched, batches, over_nodes, Read}
 use Rattle.sd_model_proxy.proofs.BatchLemmas.{each-alone}
-use Rattle.sd_model_proxy.proofs.Short.{lines_to}
+use Rattle.sd_model_proxy.proofs.Short.{lines_to, lines_sent, lines_not_sent, send_of}
 
 -- sums of what is the same, or of two parts
 same_sums : {X : Type 0} (f h : X → ℕ) → ((x : X) → f x ≡ h x) → (xs : List X) → sum_by f xs ≡ sum_by h xs

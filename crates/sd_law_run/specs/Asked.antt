@@ -3,13 +3,13 @@ use Rattle.std.specs.Prelude.{ℕ, List, map, flat_map}
 use Rattle.std.specs.List.{range_with_len}
 use Rattle.sd_model_text.specs.Lines.{Sample}
 use Rattle.sd_model_shard.specs.History.{part_of}
-use Rattle.sd_model_serve.specs.Sessions.{Broadcast}
-use Rattle.sd_model_replay.specs.Replay.{Bounds, Played, Run, first_run, moments, samples_at}
+use Rattle.sd_model_replay.specs.Replay.{Bounds, Played, Run, first_run, moments, samples_of_record}
 use Rattle.sd_model_replay.specs.AccountingTheorem.{broadcasts_in}
+use Rattle.sd_model_serve.specs.Receiving.{Broadcast}
 
 -- the good samples that a receiver brought, in order
 abbrev pub brought_by : ℕ → List Played → List Sample
-brought_by r played = map (λ a. a.sample) (part_of (λ a. a.who) r (samples_at played))
+brought_by r played = map (λ a. a.sample) (part_of (λ a. a.who) r (flat_map (λ p. samples_of_record p.command) played))
 
 -- those of each of so many receivers
 abbrev pub brought_in : ℕ → List Played → List (List Sample)

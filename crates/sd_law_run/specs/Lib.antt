@@ -4,3 +4,4 @@ pub mod Earlier
 pub mod Nodes
 pub mod Samples
 pub mod Submits
+pub mod Reported

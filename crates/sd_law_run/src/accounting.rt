@@ -1,11 +1,10 @@
-ghost use Rattle.std.specs.Prelude.{◌≡◌, ◌<◌, ◌≤◌, ℕ, List, map, length, get_or};
+ghost use Rattle.std.specs.Prelude.{◌≡◌, ◌<◌, ◌≤◌, ℕ, List, map, length, get_or, flat_map};
 ghost use Rattle.std.specs.List.{AllByRecursion, range_with_len};
-ghost use Rattle.sd_model_shard.specs.History.{part_of, state_after};
-ghost use Rattle.sd_model_shard.specs.Whereabouts.{arrivals};
+ghost use Rattle.sd_model_shard.specs.History.{part_of, state_after, arrivals};
 ghost use Rattle.sd_model_record.specs.Record.{record_rows, documented_rows};
 ghost use Rattle.sd_model_serve.specs.Receiving.{flusher};
 ghost use Rattle.sd_model_serve.specs.Rounds.{AreAccounted, Ran, Round, flushed_at, round_record};
-ghost use Rattle.sd_model_replay.specs.Replay.{Bounds, bounds_of, limits_of, policy_of, Played, first_run, form_of, history_at, home_of, rounds, run_of, samples_at};
+ghost use Rattle.sd_model_replay.specs.Replay.{Bounds, bounds_of, limits_of, policy_of, Played, first_run, form_of, history_at, home_of, rounds, run_of, samples_of_record};
 ghost use Rattle.sd_model_replay.specs.Script.{IsLegal};
 ghost use Rattle.sd_law_run.specs.Asked.{asked_in, brought_in};
 ghost use Rattle.sd_law_shards.specs.Records.{records};
@@ -18,8 +17,8 @@ pub fn samples_are_accounted()
     ensures accounted { (settings : Settings) (played : List Played)
         → AreAccounted (limits_of settings) (policy_of settings) (form_of settings) (λ i. history_at (bounds_of settings) i played) (rounds (bounds_of settings) played) }
     ensures submitted { (bounds : Bounds) (played : List Played) (i : ℕ)
-        → arrivals (history_at bounds i played) ≡ part_of (λ a. home_of bounds.shards a.sample) i (samples_at played) }
-    ensures homes { (shards : ℕ) (played : List Played) → 0 < shards → AllByRecursion (λ a. home_of shards a.sample < shards) (samples_at played) }
+        → arrivals (history_at bounds i played) ≡ part_of (λ a. home_of bounds.shards a.sample) i (flat_map (λ p. samples_of_record p.command) played) }
+    ensures homes { (shards : ℕ) (played : List Played) → 0 < shards → AllByRecursion (λ a. home_of shards a.sample < shards) (flat_map (λ p. samples_of_record p.command) played) }
     ensures state { (bounds : Bounds) (played : List Played) (i : ℕ)
         → (run_of bounds (first_run played) played).shards i ≡ state_after bounds.limits bounds.policy (history_at bounds i played) }
 {}

@@ -1,13 +1,11 @@
 //! What a server's totals say to who audits them.
 ghost use Rattle.std.specs.Prelude.{◌≡◌, ℕ, ◌+◌, ◌<◌, length, sum_by, codes};
-ghost use Rattle.sd_model_shard.specs.History.{state_after};
-ghost use Rattle.sd_model_shard.specs.Whereabouts.{dropped_in};
+ghost use Rattle.sd_model_shard.specs.History.{state_after, dropped_in};
 ghost use Rattle.sd_law_shard.specs.Sums.{taken_in};
-ghost use Rattle.sd_model_serve.specs.Doors.{asked_by};
-ghost use Rattle.sd_model_serve.specs.Receiving.{summed_in};
+ghost use Rattle.sd_model_serve.specs.Sessions.{asked_by};
+ghost use Rattle.sd_model_serve.specs.Receiving.{summed_in, events_in};
 ghost use Rattle.sd_model_serve.specs.Rounds.{AreAccounted, Ran};
 ghost use Rattle.sd_session.specs.Commands.{AreCommands};
-ghost use Rattle.sd_model_serve.specs.Sessions.{events_in};
 ghost use Rattle.sd_model_run.specs.Run.{ServerTrace, RunSettings, brought_in, rounds_in, Objects, ServerTheorem};
 ghost use Rattle.sd_model_settings.specs.Settings as file;
 ghost use Rattle.sd_model_shard.specs.Shard.{last_number};

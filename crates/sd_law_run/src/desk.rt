@@ -1,11 +1,12 @@
 ghost use Rattle.std.specs.Prelude.{◌≡◌, ℕ, min, Bool, true};
 ghost use Rattle.sd_model_record.specs.Record.{Tally};
-ghost use Rattle.sd_model_record.specs.DeskHistory.{DeskHistory, TellsFrom, desk_after, AnswersFrom};
-ghost use Rattle.sd_model_record.specs.Desk.{Desk, Marks, new_desk, with_tally, taken, marked, with_health, with_admin_fault, with_repeater_faults, IsBalanced};
-ghost use Rattle.sd_desk.specs.Sums.{AddsUp, IsInRange};
-ghost use Rattle.sd_model_record.specs.Totals.{Amounts, Count, number_of};
+ghost use Rattle.sd_model_record.specs.DeskHistory.{DeskHistory, desk_after, AnswersFrom};
+ghost use Rattle.sd_law_run.specs.Reported.{TellsFrom};
+ghost use Rattle.sd_model_record.specs.Desk.{Desk, Marks, new_desk, IsBalanced};
+ghost use Rattle.sd_desk.specs.Sums.{AddsUp, IsInRange, Count, Amounts, number_of};
 ghost use Rattle.sd_shared_desk.specs.Counts.{GrewBy, HasCounted, KeepsCounts, Part, nothing, of_history, plus, of_tally, of_taken, of_marks, of_sessions, of_sends};
 ghost use Rattle.sd_model_shard.specs.Shard.{last_number};
+ghost use Rattle.sd_desk.specs.Steps.{with_tally, taken, marked, with_health, with_admin_fault, with_repeater_faults};
 
 /// The totals of a new desk are the tallies taken and the tally, and its counts are in range. Each change of a desk
 /// keeps both, and lets no count fall.

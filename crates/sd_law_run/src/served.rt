@@ -7,8 +7,7 @@ ghost use Rattle.sd_model_record.specs.Replies.{admin_events};
 ghost use Rattle.sd_model_serve.specs.Rounds.{Round, swaps_at, Ran};
 ghost use Rattle.sd_session.specs.Commands.{AreCommands};
 ghost use Rattle.sd_pool.specs.Adding.{JoinsAs};
-ghost use Rattle.sd_model_serve.specs.Receiving.{asks, events_of};
-ghost use Rattle.sd_model_serve.specs.Sessions.{Broadcast, acts_in, events_in};
+ghost use Rattle.sd_model_serve.specs.Receiving.{asks, events_of, Broadcast, events_in, acts_in};
 
 /// Where the callers' own acts ask for what they brought, the history that they join as is that of the run. It is enough that
 /// the administrator asks for deletions and dumps alone, as admin lines do.

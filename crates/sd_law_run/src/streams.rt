@@ -1,11 +1,12 @@
-ghost use Rattle.std.specs.Prelude.{◌≡◌, ℕ, false, List, [], ◌∷◌, ◌++◌, flat_map, All};
+ghost use Rattle.std.specs.Prelude.{◌≡◌, ℕ, false, List, [], ◌∷◌, ◌++◌, flat_map, All, nat_le, length, if◌then◌else◌};
 ghost use Rattle.std.specs.List.{concat};
 ghost use Rattle.sd_model_text.specs.Lists.{split};
 ghost use Rattle.sd_law_text.specs.Bytes.{has_byte};
-ghost use Rattle.sd_model_stream.specs.Streams.{StreamLine, but_last, cut_of, samples_of_line, stream_lines, Stream, bytes_in, lines_in};
+ghost use Rattle.sd_model_stream.specs.Streams.{StreamLine, but_last, samples_of_line, stream_lines, Stream, bytes_in, lines_in, Line, Long};
 ghost use Rattle.sd_model_proxy.specs.Relays.{lines_ended};
 ghost use Rattle.sd_tcp.specs.Cutting.{rest_of, Cutting, CutsOn, HasCut, nothing_cut};
 ghost use Rattle.sd_law_run.specs.Samples.{stream_samples};
+ghost use Rattle.sd_model_text.specs.Lines.{longest_datagram};
 
 /// A stream that has no byte has no line and no rest. Bytes without a newline go to the rest, and one behind them ends it as a
 /// line.
@@ -15,7 +16,7 @@ pub fn lines_come_in_pieces()
     ensures same { (stream bytes : List ℕ) → has_byte 10 bytes ≡ false → stream_lines (stream ++ bytes) ≡ stream_lines stream }
     ensures rest { (stream bytes : List ℕ) → has_byte 10 bytes ≡ false → rest_of (stream ++ bytes) ≡ rest_of stream ++ bytes }
     ensures ended { (stream bytes : List ℕ) → has_byte 10 bytes ≡ false
-        → stream_lines (stream ++ (bytes ++ 10 ∷ [])) ≡ stream_lines stream ++ cut_of (rest_of stream ++ bytes) ∷ [] }
+        → stream_lines (stream ++ (bytes ++ 10 ∷ [])) ≡ stream_lines stream ++ (if nat_le (length (rest_of stream ++ bytes)) longest_datagram then Line (rest_of stream ++ bytes) else Long) ∷ [] }
     ensures begun { (stream bytes : List ℕ) → has_byte 10 bytes ≡ false → rest_of (stream ++ (bytes ++ 10 ∷ [])) ≡ [] }
 {}
 

@@ -9,14 +9,14 @@ use Rattle.std.specs.List.{list_any, list_all, AllPass}
 use Rattle.std.specs.Str.{bytes_eq}
 use Rattle.toml.specs.Data.{Data, array, Items, Members, get_member}
 use Rattle.sd_model_text.specs.Names.{is_name_byte}
-use Rattle.sd_model_settings.specs.Values.{text, whole_read, is_prefix, is_filled_prefix, is_host, is_metric, decimal, each, are_at_most, listed, one_or_list, are_distinct, ranged, both, required}
+use Rattle.sd_model_settings.specs.Values.{text, whole_read, is_name_text, is_filled_prefix, is_host, decimal, each, are_at_most, listed, one_or_list, are_distinct, ranged, both, required}
 use Rattle.sd_model_text.specs.Numbers.{Limit}
-use Rattle.sd_model_settings.specs.Entries.{are_thresholds, thresholds, is_backend, is_limit, are_limits, has_early_inf, bins_of, bins_read, classes, host_and_port, node, class_name, timer_classes, is_class_name}
+use Rattle.sd_model_settings.specs.Entries.{thresholds, is_backend, is_limit, has_early_inf, bins_read, classes, host_and_port, node, class_name, timer_classes, is_class_name}
 use Rattle.sd_law_settings.specs.Ranges.{IsWithin, IsPrefix, IsHost, IsThreshold, AreThresholds, AreBackends, AreClassNames, AreLimits, IsClasses, AreHistograms, IsTarget, AreTargets, IsNode, AreNodes}
 use Rattle.sd_law_settings.proofs.ValuesInRange.{anything_in_range, ranged_in_range, mapped_in_range, both_in_range, whole_in_range, text_in_range, each_in_range, few, listed_in_range, entry_in_range, required_in_range, optional_in_range}
-use Rattle.sd_model_settings.proofs.Short.{backends, class_names, is_threshold, limit, target, is_host_byte}
+use Rattle.sd_model_settings.proofs.Short.{backends, class_names, is_threshold, limit, target, is_host_byte, are_limits, bins_of, are_thresholds}
 
-pub is_prefix-prefix : (s : List ℕ) → is_prefix s ≡ true → IsPrefix s
+pub is_prefix-prefix : (s : List ℕ) → is_name_text 64 s ≡ true → IsPrefix s
 is_prefix-prefix s e =
     let parts = and_parts (nat_le (length s) 64) (list_all is_name_byte s) e in
     record { short = grind (arith, nat_tests); bytes = AllPass-from_list_all is_name_byte s parts.1 }
@@ -26,12 +26,12 @@ is_host-host s e =
     let parts = and_parts (nat_lt 0 (length s) && nat_le (length s) 64) (list_all is_host_byte s) e in
     record { some = grind (arith, nat_tests); short = grind (arith, nat_tests); bytes = AllPass-from_list_all is_host_byte s parts.1 }
 
-pub prefix_in_range : (d : Data) → IfOk (text is_prefix d) IsPrefix
-prefix_in_range d = text_in_range is_prefix IsPrefix is_prefix-prefix d
+pub prefix_in_range : (d : Data) → IfOk (text (is_name_text 64) d) IsPrefix
+prefix_in_range d = text_in_range (is_name_text 64) IsPrefix is_prefix-prefix d
 
 pub filled_prefix_in_range : (d : Data) → IfOk (text is_filled_prefix d) (λ s. IsPrefix s × (0 < length s))
 filled_prefix_in_range d =
-    text_in_range is_filled_prefix (λ s. IsPrefix s × (0 < length s)) (λ s e. let parts = and_parts (nat_lt 0 (length s)) (is_prefix s) e in (is_prefix-prefix s parts.1, grind (arith, nat_tests))) d
+    text_in_range is_filled_prefix (λ s. IsPrefix s × (0 < length s)) (λ s e. let parts = and_parts (nat_lt 0 (length s)) (is_name_text 64 s) e in (is_prefix-prefix s parts.1, grind (arith, nat_tests))) d
 
 pub host_in_range : (d : Data) → IfOk (text is_host d) IsHost
 host_in_range d = text_in_range is_host IsHost is_host-host d
@@ -87,16 +87,16 @@ bins_in_range : (d : Data) → IfOk (bins_read d) AreLimits
 bins_in_range (array ds) = bins_of_in_range ds
 bins_in_range _ = tt
 
-metric_in_range : (d : Data) → IfOk (text is_metric d) (λ s. (length s ≤ 255) × AllPass is_name_byte s)
+metric_in_range : (d : Data) → IfOk (text (is_name_text 255) d) (λ s. (length s ≤ 255) × AllPass is_name_byte s)
 metric_in_range d =
-    text_in_range is_metric (λ s. (length s ≤ 255) × AllPass is_name_byte s)
+    text_in_range (is_name_text 255) (λ s. (length s ≤ 255) × AllPass is_name_byte s)
     (λ s e. let parts = and_parts (nat_le (length s) 255) (list_all is_name_byte s) e in (grind (arith, nat_tests), AllPass-from_list_all is_name_byte s parts.1)) d
 
 classes_in_range : (d : Data) → IfOk (classes d) IsClasses
 classes_in_range = entry_in_range _ IsClasses (λ ms.
     mapped_in_range _ _ (λ p. ((length p.0 ≤ 255) × AllPass is_name_byte p.0) × AreLimits p.1) IsClasses
     (both_in_range _ _ (λ s. (length s ≤ 255) × AllPass is_name_byte s) AreLimits
-    (required_in_range (text is_metric) (λ s. (length s ≤ 255) × AllPass is_name_byte s) metric_in_range (get_member (codes "metric") ms))
+    (required_in_range (text (is_name_text 255)) (λ s. (length s ≤ 255) × AllPass is_name_byte s) metric_in_range (get_member (codes "metric") ms))
     (required_in_range bins_read AreLimits bins_in_range (get_member (codes "bins") ms)))
     (λ p q. record { short = q.0.0; bytes = q.0.1; limits = q.1 }))
 

@@ -7,7 +7,8 @@ use Rattle.toml.specs.Data.{Data, no_members}
 use Rattle.sd_model_settings.specs.Values.{flag, whole_read, members}
 use Rattle.sd_model_settings.specs.Entries.{SettingKind, Whole, Share, Flag, Prefix, FilledPrefix, Host, Thresholds, Backends, ClassNames, Histograms, Targets, Nodes, Value, read_as}
 use Rattle.sd_model_settings.specs.Table.{SettingTable, Values, Then, server, deletion_rules, addresses, namespace, entry_lists, sizes, flush_rules, transport}
-use Rattle.sd_model_settings.specs.Settings.{unknown, SettingsFlaw, ◌>>=◌, Section, found, read, top, Settings, setting_tables, settings_in, unless_unknown, document, settings_by, settings}
+use Rattle.sd_model_settings.specs.Settings.{unknown, SettingsFlaw, Section, found, read, top, Settings, setting_tables, settings_in, unless_unknown, document, settings_by, settings}
+use Rattle.sd_model_text.specs.Lists.{◌>>=◌}
 use Rattle.sd_law_settings.specs.Ranges.{IsWithin, IsHost, AreThresholds, AreBackends, AreClassNames, AreHistograms, AreTargets, AreNodes, IsInRange, AreInRange, InRange}
 use Rattle.sd_law_settings.proofs.ValuesInRange.{anything_in_range, bind_in_range, found_in_range, ranged_in_range, whole_in_range}
 use Rattle.sd_law_settings.proofs.EntriesInRange.{is_prefix-prefix, is_host-host, prefix_in_range, filled_prefix_in_range, host_in_range, thresholds_in_range, backends_in_range, class_names_in_range, histogram_in_range, repeater_in_range, nodes_in_range}

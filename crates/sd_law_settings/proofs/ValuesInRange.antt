@@ -5,7 +5,8 @@ use Rattle.std.proofs.lemmas.Bool.{cases_Bool}
 use Rattle.std.proofs.lemmas.Bool.Decides.{nat_tests}
 use Rattle.toml.specs.Data.{Data, string, integer, array, table, Items, no_items, item, Members}
 use Rattle.sd_model_settings.specs.Values.{ValueFlaw, OtherKind, OutsideRange, both, mapped, ranged, whole_read, text, each, are_at_most, listed, entry, required, optional}
-use Rattle.sd_model_settings.specs.Settings.{SettingsFlaw, ◌>>=◌, with_name, in_force, Section, found}
+use Rattle.sd_model_settings.specs.Settings.{SettingsFlaw, with_name, in_force, Section, found}
+use Rattle.sd_model_text.specs.Lists.{◌>>=◌}
 use Rattle.sd_law_settings.specs.Ranges.{IsWithin}
 
 -- nothing is asked of a value

@@ -11,14 +11,13 @@ use Rattle.sd_model_text.specs.Names.{Kind}
 use Rattle.sd_model_text.specs.Lines.{Sample}
 use Rattle.sd_model_shard.specs.Rows.{DumpRow, is_hit, rows_left, dump_of, Rows, Entry, row_of, is_listed, Tell}
 use Rattle.sd_model_shard.specs.Shard.{State, empty_state, Cause, Limits, Policy, Taken, Dropped, Event, Submit, Swap, Delete, Dump, Look, step, admitted, refusal, with_sample, kept_rows, after_swap, after_delete, deletion_of, Table, table_of, Answered, Swapped, Dumped, Numbers, numbers_of, Looked, last_number}
-use Rattle.sd_model_shard.specs.History.{History, Act, Asked, after, after_all, state_after, LegalFrom, Legal, answered, held_after}
+use Rattle.sd_model_shard.specs.History.{History, Act, Asked, after, after_all, state_after, LegalFrom, Legal, answered, held_after, arrivals, fates, filed, journaled, Flushed, ActOver, acts_over, flushes, deletions, taken_out, summed_by, tables as handed_out, AreDocumented, RowsAreKept}
 use Rattle.sd_law_shard.specs.Sums.{StandsAt, flushed_in, StandsOnce}
-use Rattle.sd_model_shard.specs.Whereabouts.{arrivals, fates, filed, causes, journaled, Flushed, ActOver, acts_over, flushes, deletions, taken_out, summed_by, tables as handed_out, AreDocumented, RowsAreKept}
 use Rattle.sd_law_shard.specs.Reported.{IsReportedBy, AreReportedBy}
 use Rattle.sd_law_shard.proofs.OverLemmas.{summed_by_entries}
 use Rattle.sd_model_shard.proofs.KeptRowLemmas.{Stands, Stands-empty, Stands-sample, Stands-drop, Stands-swap, Stands-delete, Stands-tell, samples_reported, deleted_reported}
 use Rattle.sd_model_shard.proofs.HistoryLemmas.{LegalFrom-push, asked_in, legal_is_answered}
-use Rattle.sd_model_shard.proofs.Short.{held_from, with_drop, deleted_from, flushes_from, act_of, Accounted, entries_taken_out, entries_left}
+use Rattle.sd_model_shard.proofs.Short.{held_from, with_drop, deleted_from, flushes_from, act_of, Accounted, entries_taken_out, entries_left, causes}
 
 pub LegalFrom-prefix : (limits : Limits) (policy : Policy) (state : State) (prefix back : History) → LegalFrom limits policy state (prefix ++ back) → LegalFrom limits policy state prefix
 LegalFrom-prefix limits policy state [] back h = tt

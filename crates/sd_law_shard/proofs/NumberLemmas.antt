@@ -4,9 +4,8 @@ use Rattle.std.specs.Prelude.{min, Option, Some, None}
 use Rattle.std.proofs.lemmas.List.Sums.{sum_by-cons}
 use Rattle.sd_model_text.specs.Lines.{Sample}
 use Rattle.sd_model_shard.specs.Shard.{State, Cause, Limits, Policy, Event, Submit, Swap, Delete, Dump, Look, Reply, empty_state, step, admitted, refusal, last_number}
-use Rattle.sd_model_shard.specs.History.{Act, History, LegalFrom, Legal, after, after_all, state_after}
+use Rattle.sd_model_shard.specs.History.{Act, History, LegalFrom, Legal, after, after_all, state_after, dropped_in, summed_by}
 use Rattle.sd_law_shard.proofs.HistoryLemmas.{flushes_reported}
-use Rattle.sd_model_shard.specs.Whereabouts.{dropped_in, summed_by}
 use Rattle.sd_law_shard.specs.Sums.{taken_in, deleted_in, AreSums}
 
 -- the numbers of a state grew by these

@@ -7,7 +7,7 @@ use Rattle.std.specs.FinMap.{find, get, len, contains_key, is_sorted, entries, e
 use Rattle.std.specs.FinMap.Entries.{below_all}
 use Rattle.sd_model_text.specs.Names.{Kind, Counter, Timer, Gauge, Set}
 use Rattle.sd_model_text.specs.Lines.{Sample}
-use Rattle.sd_model_shard.specs.Rows.{RowId, row_cmp, Summary, Kept, Rows, Entry, row_of, entries_of, is_listed, amount_by, without_samples, Tell, DumpRow, dump_row, dump_of, is_of_kind}
+use Rattle.sd_model_shard.specs.Rows.{RowId, row_cmp, Summary, Kept, Rows, Entry, row_of, entries_of, is_listed, amount_by, without_samples, Tell, DumpRow, dump_of, is_of_kind}
 use Rattle.sd_law_shard.specs.Amounts.{amount_of}
 use Rattle.sd_model_shard.specs.Shard.{State, Limits, Policy, Cause, NoRow, NoEntry, NoNumber, refusal, is_full, full_cause, kept_by, left_of, expires, last_number}
 use Rattle.sd_law_shard.specs.Reported.{refusal_over, kept_over, left_over, dump_row_over, IsReportedBy}
@@ -16,7 +16,7 @@ use Rattle.sd_model_shard.proofs.EntryLemmas.{and_second, found_behind}
 use Rattle.sd_model_shard.proofs.DeletionLemmas.{get-retained}
 use Rattle.sd_model_shard.proofs.SummaryLemmas.{get-kept_rows}
 use Rattle.sd_model_shard.proofs.KeptRowLemmas.{Stands, Stands-tell, deleted_reported}
-use Rattle.sd_model_shard.proofs.Short.{statistics_of, last_swaps}
+use Rattle.sd_model_shard.proofs.Short.{statistics_of, last_swaps, dump_row}
 
 -- the rows of a map are told alike where each row that is found is
 pub entries_alike : {A : Type 0} (f g : RowId × Kept → A) (es : List (RowId × Kept)) → T (is_sorted row_cmp es)

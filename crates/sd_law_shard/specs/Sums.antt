@@ -1,9 +1,8 @@
 -- What the replies of a history add up to, and where each of its samples stands.
 use Rattle.std.specs.Prelude.{◌≡◌, ℕ, ◌+◌, ◌==◌, min, sum_by, count_by, List, []}
 use Rattle.sd_model_shard.specs.Shard.{State, Limits, Policy, Taken, Reply, Answered, Swapped, Deleted, last_number}
-use Rattle.sd_model_shard.specs.History.{History, Legal, state_after, held_after}
+use Rattle.sd_model_shard.specs.History.{History, Legal, state_after, held_after, acts_over, dropped_in, flushes, taken_out, summed_by}
 use Rattle.sd_model_shard.specs.Rows.{Entry, samples_in}
-use Rattle.sd_model_shard.specs.Whereabouts.{acts_over, dropped_in, flushes, taken_out, summed_by}
 
 -- A shard stands at the end of a history where the history is legal and leaves its state.
 pub record StandsAt (limits : Limits) (policy : Policy) (acts : History) (state : State) : Type 0 where

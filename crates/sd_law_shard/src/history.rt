@@ -1,10 +1,9 @@
 ghost use Rattle.std.specs.Prelude.{◌≡◌, ℕ, ◌<◌, List, [], ◌∷◌, ◌++◌, filter_map};
 ghost use Rattle.std.specs.FinMap.{empty};
 ghost use Rattle.sd_model_shard.specs.Shard.{State, empty_state, Limits, Policy, Event, step};
-ghost use Rattle.sd_model_shard.specs.History.{Act, Asked, History, Legal, after, after_all, answered, state_after};
+ghost use Rattle.sd_model_shard.specs.History.{Act, Asked, History, Legal, after, after_all, answered, state_after, AreDocumented, RowsAreKept, arrival_in, arrivals, Places};
 ghost use Rattle.sd_law_shard.specs.Sums.{StandsAt, AreSums, StandsOnce};
 ghost use Rattle.sd_law_shard.specs.Reported.{AreReportedBy};
-ghost use Rattle.sd_model_shard.specs.Whereabouts.{AreDocumented, RowsAreKept, arrival_in, arrivals, Places};
 
 /// Each sample of a legal history is in one place: the journal of one swap, what one deletion took out, among the
 /// entries held, or dropped. The rows that each swap answers are those kept before, without those deleted since, and

@@ -12,7 +12,6 @@ use Rattle.sd_model_text.specs.Lines.{Sample, samples_of}
 use Rattle.sd_model_shard.specs.Rows.{Rows, Entry, row_of, is_hit, rows_left}
 use Rattle.sd_model_shard.specs.Shard.{State, Cause, Limits, Policy, Event, Submit, Swap, Delete, Dump, Look, step, admitted, refusal, kept_rows, after_swap, after_delete}
 use Rattle.sd_model_shard.specs.History.{Asked, answered, part_of}
-use Rattle.sd_model_shard.specs.Whereabouts.{causes}
 use Rattle.sd_model_shard.proofs.KeptRowLemmas.{Stands, Stands-empty, Stands-sample, Stands-swap, Stands-delete, deleted_reported}
 use Rattle.sd_model_shard.proofs.OrderLemmas.{weighed_once}
 use Rattle.sd_model_record.specs.Admin as admin
@@ -25,7 +24,7 @@ use Rattle.sd_law_shards.specs.Shards.{NoneDropped}
 use Rattle.sd_law_shards.proofs.ViewLemmas.{after_asked}
 use Rattle.sd_law_shards.proofs.EventsLemmas.{submits, asks, events_of}
 use Rattle.sd_law_shards.proofs.ShownLemmas.{NoneFrom, none_first, none_behind, none_summed}
-use Rattle.sd_model_shard.proofs.Short.{act_of, entries_taken_out, entries_left}
+use Rattle.sd_model_shard.proofs.Short.{act_of, entries_taken_out, entries_left, causes}
 
 -- the samples that came, and where they are
 pub record Books : Type 0 where

@@ -6,8 +6,7 @@ use Rattle.sd_model_text.specs.Names.{Kind, shard}
 use Rattle.sd_model_text.specs.Lines.{Sample, samples_of}
 use Rattle.sd_model_shard.specs.Rows.{RowId, row_of, is_same_row, is_hit}
 use Rattle.sd_model_shard.specs.Shard.{State, Cause, Limits, Policy, Event, Submit, Swap, Delete, after_delete}
-use Rattle.sd_model_shard.specs.History.{Act, History, Asked, answered, part_of}
-use Rattle.sd_model_shard.specs.Whereabouts.{Fate, causes, cause_in, fate_in, fates}
+use Rattle.sd_model_shard.specs.History.{Act, History, Asked, answered, part_of, Fate, cause_in, fate_in, fates}
 use Rattle.sd_model_shard.proofs.AnsweredLemmas.{answered-append}
 use Rattle.sd_model_shard.proofs.DeletionLemmas.{same_row, get-rows_left}
 use Rattle.sd_model_record.specs.Admin as admin
@@ -17,6 +16,7 @@ use Rattle.sd_model_replay.specs.Script.{ScriptCommand, Packet, Flush, Admin}
 use Rattle.sd_model_record.specs.Replies.{admin_events}
 use Rattle.sd_model_serve.specs.Receiving.{administrator, flusher}
 use Rattle.sd_law_shards.proofs.ViewLemmas.{View, nothing, view, row_event, row_step, view-asked, after_asked}
+use Rattle.sd_model_shard.proofs.Short.{causes}
 
 abbrev pub submits : ℕ → List Sample → List Asked
 submits who samples = map (λ s. record { who = who; event = Submit s }) samples

@@ -11,7 +11,7 @@ use Rattle.std.proofs.lemmas.Bool.{eqb-true}
 use Rattle.std.proofs.lemmas.List.{map-append}
 use Rattle.sd_model_text.specs.Names.{Kind, shard}
 use Rattle.sd_model_text.specs.Lines.{Sample, samples_of}
-use Rattle.sd_model_shard.specs.Rows.{RowId, row_cmp, Kept, row_of, is_same_row, row_in, DumpRow, dump_of, dump_row, is_hit, is_of_kind, keys_of, rows_taken_out}
+use Rattle.sd_model_shard.specs.Rows.{RowId, row_cmp, Kept, row_of, is_same_row, row_in, DumpRow, dump_of, is_hit, is_of_kind, keys_of, rows_taken_out}
 use Rattle.sd_model_shard.specs.Shard.{State, Cause, Limits, Policy, Event, Submit, Swap, Delete, Dump, Look, step, admitted, refusal, left_of, after_swap, after_delete, empty_state, Table}
 use Rattle.sd_model_shard.specs.History.{Asked, part_of}
 use Rattle.sd_model_shard.proofs.RowLemmas.{rows_total}
@@ -32,7 +32,7 @@ use Rattle.sd_law_shards.proofs.EventsLemmas.{asks, submits, other_row}
 use Rattle.sd_law_shards.proofs.ReportedLemmas.{find_retained}
 use Rattle.sd_law_shards.proofs.ShownLemmas.{rounds_with}
 use Rattle.sd_model_replay.proofs.Short.{rounds_from}
-use Rattle.sd_model_shard.proofs.Short.{sampled}
+use Rattle.sd_model_shard.proofs.Short.{sampled, dump_row}
 
 -- an event that isn't a sample of this row
 abbrev pub IsForeign : RowId → Event → Type 0

@@ -5,7 +5,6 @@ use Rattle.std.specs.Prelude.{codes, sum_by}
 use Rattle.std.specs.List.{range_with_len}
 use Rattle.std.proofs.lemmas.List.Sums.{sum_by-cons}
 use Rattle.sd_model_shard.specs.Shard.{State, Cause}
-use Rattle.sd_model_shard.specs.Whereabouts.{causes}
 use Rattle.sd_model_replay.specs.Replay.{bounds_of, Played, first_run, run_of, history_at}
 use Rattle.sd_model_record.specs.Totals.{number_in}
 use Rattle.sd_model_replay.specs.AccountingTheorem.{totals_after}
@@ -13,6 +12,7 @@ use Rattle.sd_law_record.proofs.AccountingLemmas.{are_accounted}
 use Rattle.sd_model_replay.proofs.HistoryLemmas.{state-history_at}
 use Rattle.sd_law_shards.specs.Shards.{NoneDropped}
 use Rattle.sd_model_settings.specs.Settings.{Settings}
+use Rattle.sd_model_shard.proofs.Short.{causes}
 
 none_of_sum : (f : ℕ → ℕ) (i start count : ℕ) → sum_by f (range_with_len start count) ≡ 0 → start ≤ i → i < start + count → f i ≡ 0
 none_of_sum f i start zero none low high = absurd (omega arith)

@@ -8,7 +8,7 @@ use Rattle.std.specs.FinMap.{FinMap, get, entries, find, from_entries, retain_ke
 use Rattle.std.proofs.lemmas.Bool.{eq-eqb}
 use Rattle.sd_model_text.specs.Names.{Kind, rank, shard}
 use Rattle.sd_model_settings.specs.Settings.{Plan}
-use Rattle.sd_model_shard.specs.Rows.{RowId, row_cmp, Kept, Rows, DumpRow, dump_row, dump_of, in_key_order, is_hit, is_of_kind, keys_of, rows_taken_out}
+use Rattle.sd_model_shard.specs.Rows.{RowId, row_cmp, Kept, Rows, DumpRow, dump_of, in_key_order, is_hit, is_of_kind, keys_of, rows_taken_out}
 use Rattle.sd_model_shard.specs.Shard.{State, table_of}
 use Rattle.sd_model_shard.proofs.RowLemmas.{rows_exact, rows_total}
 use Rattle.sd_model_shard.proofs.DeletionLemmas.{same_row}
@@ -20,6 +20,7 @@ use Rattle.sd_law_shards.proofs.ViewLemmas.{View, nothing, view}
 use Rattle.sd_law_shards.proofs.EventsLemmas.{Reflects}
 use Rattle.sd_law_shards.proofs.MergedLemmas.{merged_alike}
 use Rattle.sd_model_record.proofs.Short.{table_rows, row_value}
+use Rattle.sd_model_shard.proofs.Short.{dump_row}
 
 -- what is told of a row that isn't there is nothing
 masked : {X : Type 0} (f : View → Option X) (b : Bool) (v : View) → f nothing ≡ None → f (cond b v nothing) ≡ cond b (f v) None

@@ -11,20 +11,19 @@ use Rattle.sd_model_text.specs.Lines.{Sample}
 use Rattle.sd_model_shard.specs.Rows.{RowId, row_cmp, dump_of, in_key_order}
 use Rattle.sd_model_shard.specs.Shard as at_shard
 use Rattle.sd_model_shard.specs.Shard.{State, Cause, Limits, Policy, Event, Submit, Swap, Delete, Dump, Look, step, admitted, refusal, deletion_of, after_delete, table_of, Dumped}
-use Rattle.sd_model_shard.specs.History.{Act, Asked, answered}
-use Rattle.sd_model_shard.specs.Whereabouts.{causes, dropped_in}
+use Rattle.sd_model_shard.specs.History.{Act, Asked, answered, dropped_in}
 use Rattle.sd_model_shard.proofs.OrderLemmas.{sum_by-flat_map}
 use Rattle.sd_model_record.specs.Admin as admin
 use Rattle.sd_model_record.specs.Admin.{AdminFault}
-use Rattle.sd_model_record.specs.Desk.{Desk, Marks, with_tally, with_repeater_faults}
+use Rattle.sd_model_record.specs.Desk.{Desk, Marks}
+use Rattle.sd_model_record.specs.DeskHistory.{desk_step, Add, RepeaterFaults}
 use Rattle.sd_model_record.specs.Record.{Record, record_rows}
 use Rattle.sd_model_record.specs.Replies.{AdminReply, Stats, Rows, Gone, Finish, Health, reply_text, admin_events, health_after, keys_in, rows_in, names_replied, replies_by}
-use Rattle.sd_model_replay.specs.Replay.{Bounds, bounds_of, policy_of, limits_of, Outcome, Played, Run, first_run, events_of_record, acts_of_record, replies_to, packet_tally, desk_after_record, desk_after_line, play, run_of, Moment, moments, form_of, round_by, rounds, deliveries}
+use Rattle.sd_model_replay.specs.Replay.{Bounds, bounds_of, policy_of, limits_of, Outcome, Played, Run, first_run, events_of_record, acts_of_record, replies_to, desk_after_record, desk_after_line, play, run_of, Moment, moments, form_of, round_by, rounds, deliveries}
 use Rattle.sd_model_replay.specs.Script.{ScriptCommand, Packet, Flush, Admin}
 use Rattle.sd_model_outside.specs.Uses.{Delivery, failures}
 use Rattle.sd_model_record.specs.Backends.{Backend, text_of, mark_of}
 use Rattle.sd_model_serve.specs.Rounds.{Round, round_record}
-use Rattle.sd_model_serve.specs.Sessions.{replies_at}
 use Rattle.sd_law_shards.specs.Records.{records}
 use Rattle.sd_model_replay.specs.AccountingTheorem.{broadcasts, replies_in, output_in, output_of}
 use Rattle.sd_law_shards.specs.Shards.{NoneDropped, with_shards, ShowsNone, ShowsNoShards, ShowNone}
@@ -33,8 +32,9 @@ use Rattle.sd_law_shards.proofs.EventsLemmas.{Reflects, Reflects-command, Reflec
 use Rattle.sd_law_shards.proofs.ReportedLemmas.{keys_alike, rows_alike, values_alike}
 use Rattle.sd_model_settings.specs.Settings.{Settings, plan_of, names_of}
 use Rattle.sd_model_record.proofs.Short.{table_rows, with_round, keys_reported, rows_reported}
-use Rattle.sd_model_replay.proofs.Short.{events_at, rounds_from}
-use Rattle.sd_model_shard.proofs.Short.{act_of}
+use Rattle.sd_model_replay.proofs.Short.{events_at, rounds_from, packet_tally}
+use Rattle.sd_model_shard.proofs.Short.{act_of, causes}
+use Rattle.sd_model_serve.specs.Receiving.{replies_at}
 
 -- events of which none is dropped are answered with no drop
 sample_answered : (limits : Limits) (policy : Policy) (state : State) (who : ℕ) (s : Sample) (answer : Option Cause) (asked : List Asked)
@@ -134,7 +134,7 @@ module _ (settings : Settings) (n m : ℕ) (some_n : 1 ≤ n) (some_m : 1 ≤ m)
       → desk_after_record one.desk c (replies_to (bounds_of S) one.shards c) outcome ≡ desk_after_record another.desk c (replies_to (bounds_of T) another.shards c) outcome
   desk_alike one another (Packet who moment datagram) outcome same none_n none_m =
       let drops = none_replied (bounds_of S) one (Packet who moment datagram) none_n ∙ sym (none_replied (bounds_of T) another (Packet who moment datagram) none_m) in
-      λ k. with_repeater_faults (with_tally (same k) (packet_tally datagram (drops k)) moment) (failures outcome.failed)
+      λ k. desk_step (desk_step (same k) (Add (packet_tally datagram (drops k)) moment)) (RepeaterFaults (failures outcome.failed))
   desk_alike one another (Flush ts) outcome same none_n none_m = ap (λ (desk : Desk). with_round desk outcome.marks) same
   desk_alike one another (Admin moment line) outcome same none_n none_m = ap (λ (desk : Desk). desk_after_line desk (admin.command line)) same
 

@@ -6,10 +6,9 @@ use Rattle.sd_model_text.specs.Lines.{Sample}
 use Rattle.sd_model_shard.specs.Rows.{RowId, row_cmp, Kept, row_of, is_same_row, without_samples, row_in, is_hit}
 use Rattle.sd_model_shard.specs.Shard.{State, empty_state, Cause, Limits, Policy, Event, Submit, Swap, Delete, Dump, Look, step, admitted, refusal, with_sample, left_of}
 use Rattle.sd_model_shard.specs.History.{Asked, after_all, answered}
-use Rattle.sd_model_shard.specs.Whereabouts.{causes}
 use Rattle.sd_model_shard.proofs.SummaryLemmas.{get-kept_rows, get-touched}
 use Rattle.sd_model_shard.proofs.DeletionLemmas.{same_row, get-rows_left}
-use Rattle.sd_model_shard.proofs.Short.{act_of, sampled}
+use Rattle.sd_model_shard.proofs.Short.{act_of, sampled, causes}
 
 -- What a shard has of one row, where it is live.
 abbrev pub View : Type 0

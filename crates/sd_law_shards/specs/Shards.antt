@@ -1,11 +1,10 @@
 -- What a script shows over several shards.
-use Rattle.std.specs.Prelude.{◌≡◌, ◌≢◌, ⊤, ℕ, ◌<◌, ◌==◌, false, List, [], map, flat_map, Result, Ok, None}
+use Rattle.std.specs.Prelude.{◌≡◌, ◌≢◌, ⊤, ℕ, ◌<◌, ◌==◌, false, List, [], map, flat_map, Result, Ok, None, filter_map}
 use Rattle.std.specs.FinMap.{entries, get}
 use Rattle.std.specs.List.{AllByRecursion, range_with_len}
 use Rattle.sd_model_text.specs.Names.{shard}
 use Rattle.sd_model_shard.specs.Rows.{RowId}
 use Rattle.sd_model_shard.specs.Shard.{State}
-use Rattle.sd_model_shard.specs.Whereabouts.{causes}
 use Rattle.sd_model_record.specs.Admin as admin
 use Rattle.sd_model_record.specs.Admin.{AdminFault}
 use Rattle.sd_model_serve.specs.Rounds.{Round}
@@ -15,6 +14,7 @@ use Rattle.sd_model_record.specs.Backends.{Backend}
 use Rattle.sd_law_shards.specs.Records.{records}
 use Rattle.sd_model_replay.specs.AccountingTheorem.{output_of, totals_after}
 use Rattle.sd_model_settings.specs.Settings.{Settings}
+use Rattle.sd_model_shard.specs.History.{cause_in, fates}
 
 -- settings with another number of shards
 abbrev pub with_shards : ℕ → Settings → Settings
@@ -22,7 +22,7 @@ with_shards n settings = record settings { sizes = record settings.sizes { shard
 
 -- No shard drops a sample.
 abbrev pub NoneDropped : Bounds → List Played → Type 0
-NoneDropped bounds played = (i : ℕ) → i < bounds.shards → causes (history_at bounds i played) ≡ []
+NoneDropped bounds played = (i : ℕ) → i < bounds.shards → filter_map (λ f. cause_in f.placed) (fates (history_at bounds i played)) ≡ []
 
 -- a line that asks neither for the settings, which tell the number of shards, nor for the totals, which tell of each shard
 abbrev pub ShowsNoShards : Result admin.Command AdminFault → Type 0

@@ -6,14 +6,14 @@ use Rattle.std.specs.Prelude.{nat_lt, ◌==◌}
 use Rattle.std.proofs.Math.Bool.{or-false}
 use Rattle.std.proofs.Math.Seq.{take-length}
 use Rattle.std.proofs.Math.ListN.{drop_of_length-le}
-use Rattle.sd_model_text.specs.Lists.{split, cut_at, Cut}
+use Rattle.sd_model_text.specs.Lists.{split, cut_at, Cut, ◌>>=◌}
 use Rattle.sd_model_text.specs.Names.{Kind, Counter, Timer, Gauge, Set, clean}
-use Rattle.sd_model_text.specs.Numbers.{NumberFlaw, BadShape, rounded, is_mark, is_point, is_digits, within_range, magnitude_of_sides, magnitude_by, exponent_of, decimal_magnitude, decimal_value, has_minus, has_sign, without_sign, with_sign}
+use Rattle.sd_model_text.specs.Numbers.{NumberFlaw, BadShape, rounded, is_mark, is_digits, within_range, magnitude_of_sides, magnitude_by, exponent_of, decimal_magnitude, decimal_value, has_minus, has_sign, without_sign, with_sign}
 use Rattle.sd_law_text.specs.Bytes.{HasNoMark, has_byte}
-use Rattle.sd_model_text.specs.Lines.{Sample, Flaw, BadRate, NegativeTimer, LongMember, ExtraField, ◌>>=◌, typed, unless_so, field, timer_value, value_of, within_rate, rate_of, sample, is_below_zero, is_long_member, reading_behind, reading}
+use Rattle.sd_model_text.specs.Lines.{Sample, Flaw, BadRate, NegativeTimer, LongMember, ExtraField, typed, unless_so, field, timer_value, value_of, within_rate, rate_of, sample, is_below_zero, is_long_member, reading_behind, reading}
 use Rattle.sd_law_text.specs.Grammar.{IsPiece, fields_of}
 use Rattle.sd_law_text.specs.Before.{sides_before, value_before, number_before, rate_before, is_over_before, behind_before, cut_before, reading_before}
-use Rattle.sd_model_text.proofs.Short.{reading_cut, named, valued, is_over}
+use Rattle.sd_model_text.proofs.Short.{reading_cut, named, valued, is_over, is_point}
 
 -- the exponent 0 leaves the exact fraction
 sides_stay : (whole fraction : List ℕ) → magnitude_of_sides whole fraction (pos 0) ≡ sides_before whole fraction

@@ -2,10 +2,10 @@
 use Rattle.std.proofs.Common.{◌≡◌, ℕ, ◌+◌, ◌<◌, ℤ, Bool, true, false, cond, not, ◌&&◌, List, [], ◌∷◌, ◌++◌, length, refl, sym, ap, ◌∙◌, subst, Option, Some, None, Result, Ok, Err, ok_or, unwrap_or, is_some, nat_lt, arith, append-nil}
 use Rattle.std.specs.Cmp.Lexicographic.{same_text}
 use Rattle.std.proofs.lemmas.Bool.Decides.{nat_tests}
-use Rattle.sd_model_text.specs.Lists.{split, cut_at, Cut}
+use Rattle.sd_model_text.specs.Lists.{split, cut_at, Cut, ◌>>=◌}
 use Rattle.sd_model_text.specs.Names.{Kind, Counter, Timer, Gauge, Set, KeyFault, clean}
 use Rattle.sd_model_text.specs.Numbers.{NumberFlaw}
-use Rattle.sd_model_text.specs.Lines.{Sample, Flaw, NoType, UnknownType, BadRate, NegativeTimer, LongMember, ExtraField, ◌>>=◌, type_text, kind_named, typed, unless_so, field, value_of, rate_of, sample, is_below_zero, is_long_member, reading_behind, reading}
+use Rattle.sd_model_text.specs.Lines.{Sample, Flaw, NoType, UnknownType, BadRate, NegativeTimer, LongMember, ExtraField, type_text, kind_named, typed, unless_so, field, value_of, rate_of, sample, is_below_zero, is_long_member, reading_behind, reading}
 use Rattle.sd_law_text.specs.Bytes.{has_byte}
 use Rattle.sd_law_text.specs.Grammar.{Good, IsPiece, third}
 use Rattle.sd_model_text.proofs.ListLemmas.{split-cut, parts_of}

@@ -1,9 +1,9 @@
 -- The first flaw of a reading is the first of the nine that holds.
 use Rattle.std.proofs.Common.{◌≡◌, ℕ, ℤ, Bool, true, false, not, List, [], ◌∷◌, refl, sym, ap, ◌∙◌, Option, Some, None, Result, Ok, Err, option_map, ok_or, is_none, is_some, unwrap_or}
-use Rattle.sd_model_text.specs.Lists.{split, cut_at, Cut}
+use Rattle.sd_model_text.specs.Lists.{split, cut_at, Cut, ◌>>=◌}
 use Rattle.sd_model_text.specs.Names.{Kind, KeyFault, clean}
 use Rattle.sd_model_text.specs.Numbers.{NumberFlaw}
-use Rattle.sd_model_text.specs.Lines.{Sample, Flaw, NoValue, NoType, UnknownType, BadNumber, BadRate, NegativeTimer, BadKey, LongMember, ExtraField, ◌>>=◌, kind_named, typed, unless_so, field, value_of, rate_of, sample, is_below_zero, is_long_member, is_empty, reading_behind, reading}
+use Rattle.sd_model_text.specs.Lines.{Sample, Flaw, NoValue, NoType, UnknownType, BadNumber, BadRate, NegativeTimer, BadKey, LongMember, ExtraField, kind_named, typed, unless_so, field, value_of, rate_of, sample, is_below_zero, is_long_member, is_empty, reading_behind, reading}
 use Rattle.sd_law_text.specs.Bytes.{has_byte}
 use Rattle.sd_law_text.specs.Grammar.{err_of, where_, is_below, number_flaw, is_negative, is_long, flaws_behind, flaws, first_of, parted}
 use Rattle.sd_law_text.proofs.CutLemmas.{has-cut}

@@ -2,10 +2,10 @@
 use Rattle.std.specs.Prelude.{ℕ, ◌*◌, ◌^◌, ◌==◌, ◌&&◌, ◌||◌, Bool, not, nat_lt, ℤ, pos, List, [], ◌∷◌, ◌++◌, length, if◌then◌else◌, Option, Some, None, Result, Ok, Err, ok_or}
 use Rattle.std.specs.List.{before_first, after_first}
 use Rattle.std.specs.Str.Parse.{digits_value}
-use Rattle.sd_model_text.specs.Lists.{split, cut_at, Cut}
+use Rattle.sd_model_text.specs.Lists.{split, cut_at, Cut, ◌>>=◌}
 use Rattle.sd_model_text.specs.Names.{Kind, Counter, Timer, Gauge, Set, clean}
-use Rattle.sd_model_text.specs.Numbers.{NumberFlaw, BadShape, rounded, is_point, is_digits, within_range, has_minus, has_sign, without_sign, with_sign}
-use Rattle.sd_model_text.specs.Lines.{Sample, Flaw, NoValue, BadRate, NegativeTimer, LongMember, ExtraField, ◌>>=◌, typed, unless_so, field, timer_value, within_rate, sample, is_below_zero, is_long_member, BadKey, BadNumber}
+use Rattle.sd_model_text.specs.Numbers.{NumberFlaw, BadShape, rounded, is_digits, within_range, has_minus, has_sign, without_sign, with_sign}
+use Rattle.sd_model_text.specs.Lines.{Sample, Flaw, NoValue, BadRate, NegativeTimer, LongMember, ExtraField, typed, unless_so, field, timer_value, within_rate, sample, is_below_zero, is_long_member, BadKey, BadNumber}
 use Rattle.sd_law_text.specs.Bytes.{has_byte}
 use Rattle.std.specs.Result.{result_map_both}
 
@@ -19,7 +19,7 @@ sides_before whole fraction =
 -- the value of a number text: an optional sign before digits with at most one point
 abbrev pub value_before : List ℕ → Result ℤ NumberFlaw
 value_before text =
-    with_sign (has_minus text) (sides_before (before_first is_point (without_sign text)) (after_first is_point (without_sign text)))
+    with_sign (has_minus text) (sides_before (before_first (λ b. b == 46) (without_sign text)) (after_first (λ b. b == 46) (without_sign text)))
 
 -- the number of a value; a set's is 0
 abbrev pub number_before : Kind → List ℕ → Result ℤ NumberFlaw

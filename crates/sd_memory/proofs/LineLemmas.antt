@@ -2,7 +2,7 @@
 use Rattle.std.proofs.Common.{◌≡◌, ℕ, ◌==◌, ◌≤◌, Bool, not, List, length, take, min, sym, ap, ◌∙◌, arith}
 use Rattle.std.specs.List.{prefix_len}
 use Rattle.std.proofs.lemmas.List.{take-take, take_min, length-take-le}
-use Rattle.sd_model_outside.specs.Uses.{first_line_of}
+use Rattle.sd_model_outside.proofs.Short.{first_line_of}
 
 -- a byte before the end of the line
 abbrev pub is_inside : ℕ → Bool

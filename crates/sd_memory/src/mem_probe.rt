@@ -1,5 +1,5 @@
-ghost use Rattle.std.specs.Prelude.{◌≡◌, ◌≤◌, length, vec_len, vec_capacity};
-ghost use Rattle.sd_model_outside.specs.Uses.{first_line_of};
+ghost use Rattle.std.specs.Prelude.{◌≡◌, ◌≤◌, length, vec_len, vec_capacity, take, not, ◌==◌};
+ghost use Rattle.std.specs.List.{take_while};
 
 use crate::calls::next_call_fails;
 use arrayvec::ArrayVec;
@@ -94,7 +94,7 @@ impl MemProbe {
 
 /// The first line of a reply, cut to 1,024 bytes.
 fn first_line(reply: &[u8]) -> &[u8]
-    ensures line { result.now ≡ first_line_of reply.now }
+    ensures line { result.now ≡ take 1024 (take_while (λ byte. not (byte == 10)) reply.now) }
     ensures size { length result.now ≤ MOST_LINE }
 {
     let mut len = 0;

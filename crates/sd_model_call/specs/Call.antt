@@ -42,9 +42,8 @@ form (name ∷ word ∷ []) = word_form name word
 form (name ∷ settings ∷ script ∷ []) = if pointwise ◌==◌ name (codes "replay") then if is_file_word settings && is_file_word script then Some (Replay settings script) else None else None
 form words = None
 
--- How the program answers: all was done; no memory was left; the words are of no form; the settings have this flaw; the script's
--- record at this place has this one; an object couldn't be opened; a read failed; the output failed; as many records were executed
--- as there may be.
+-- How the program answers: all was done; no memory was left; the words are of no form; the settings have a flaw; the script has one
+-- at a place; an object couldn't be opened; a read failed; the output failed; as many records were executed as there may be.
 pub data Answer : Type 0 where
   Done NoMemory NoForm : Answer
   Misset : (flaw : SettingsFlaw) → Answer
@@ -95,8 +94,7 @@ pub record NotBegun (parts : Settings → List Opening) (name : List ℕ) (answe
   pub taken : IsAccepted values (File name) old.settings settings
   pub stops : StopsAmong (parts values) answer (settled values settings old) new
 
--- The account of a call: the settings in force, what was executed, and what was seen of the objects that were used when the records
--- began and when they ended.
+-- The account of a call: the settings in force, what was executed, and what was seen when the records began and when they ended.
 pub record Account : Type 0 where
   pub force : Settings
   pub trace : ReplayTrace
@@ -138,8 +136,7 @@ pub record Drilled (n : ℕ) (a : Account) (output : Object) : Type 0 where
   pub ends : EndsAs a.force end a.trace a.start a.end
   pub reported : (end ≡ drill_end n) ⊎ (end ≡ WriteFailed)
 
--- A drill was executed, and of the world's objects the output alone was changed. It was given the drill's text, or a prefix of it,
--- since it failed; a drill has no other fault.
+-- A drill was executed, and of all objects the output alone changed: it was given the drill's text, or a prefix where it failed.
 pub record RanDrill (n : ℕ) (answer : Answer) (a : Account) (old new : World) : Type 0 where
   pub drilled : Drilled n a old.seen.output
   pub complete : answer ≡ Done → drilled.end ≡ drill_end n

@@ -1,5 +1,4 @@
--- Records that are executed with no fault; and a drill: the made script, so executed by the settings of an empty file, with a count
--- of bytes in Graphite's place.
+-- A drill: the made script, executed with no fault by the settings of an empty file, with a count of bytes in Graphite's place.
 use Rattle.std.specs.Prelude.{ℕ, min, List, [], ◌∷◌, ◌++◌, length, map, sum_by, codes, false, if◌then◌else◌}
 use Rattle.sd_model_outside.specs.{Outside.{Left, Number, Object, fresh, last_count}, Uses.{NotUsed, Written}}
 use Rattle.sd_model_settings.specs.Settings.{default_settings, Settings}

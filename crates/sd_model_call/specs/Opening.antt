@@ -29,8 +29,7 @@ pub record Served : Type 0 where
   pub door : Object
   pub streams : Object
 
--- What is seen of a call's objects: the settings, what a replay uses, what a server alone or the proxy uses, and the probe, which
--- is the proxy's alone; and which backends are flagged as used.
+-- What is seen of a call's objects: the settings, what a replay, a server or the proxy uses; which backends are flagged as used.
 pub record World : Type 0 where
   pub settings : Object
   pub seen : Seen

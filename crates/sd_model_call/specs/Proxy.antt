@@ -5,7 +5,7 @@ use Rattle.sd_model_settings.specs.{Entries.{Node}, Settings.{Settings, Settings
 use Rattle.sd_model_shard.specs.Shard.{last_number}
 use Rattle.sd_model_serve.specs.Receiving.{LoopEnd}
 use Rattle.sd_model_record.specs.Totals.{totals_text}
-use Rattle.sd_model_proxy.specs.Relays.{Relay, relays_totals}
+use Rattle.sd_model_proxy.specs.{Relays.{Relay, relay_totals}, Routes.{sums_of_totals}}
 use Rattle.sd_model_live.specs.{Proxy.{Check, ProxyObjects, ProxyTheorem, answers_of}, Port.{has_port}}
 use Rattle.sd_model_call.specs.{Call.{Form, Proxy, Answer, Misset, NotBegun, NotTaken, WritesTotals}, Opening.{Opening, OfDoor, OfWire, World, IsAccepted, OnlySettings, numbered, opening_where, repeated, settled}, Server.{begun_with, ends_answer, has_streams, source_openings, stream_openings}}
 
@@ -49,11 +49,10 @@ pub record ProxyNotBegun (name : List ℕ) (answer : Answer) (old new : World) :
   pub not_begun : NotBegun proxy_openings name answer old new
   pub fits : proxy_flaw not_begun.values ≡ None
 
--- the text of its totals: those of its receivers and its reader of lines, added up, the number of checks, and that of the questions
--- that failed, up to 2^63
+-- the text of its totals: those of its workers, added up, the number of checks, and that of the questions that failed, up to 2^63
 abbrev pub relay_text : List Node → List Relay → List Check → List ℕ
 relay_text nodes relays checks =
-    totals_text (relays_totals nodes relays ++ (codes "checks", length checks) ∷ (codes "probe_faults", min (count_by is_none (answers_of checks)) last_number) ∷ [])
+    totals_text (sums_of_totals (map (relay_totals nodes) relays) ++ (codes "checks", length checks) ∷ (codes "probe_faults", min (count_by is_none (answers_of checks)) last_number) ∷ [])
 
 -- The proxy of accepted settings was begun, and its theorem holds of what its workers did. Its totals were written, and the answer
 -- says how receivers and checker ended, or that the output failed. Nothing else that is seen changed.

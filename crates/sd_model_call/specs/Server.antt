@@ -83,14 +83,12 @@ abbrev pub by_beat : LoopEnd → Answer → Answer
 by_beat Failed other = NotRead OfBeat
 by_beat ended other = other
 
--- What is answered after a run whose receivers ended so, and the worker of the beat, and the others, and whose totals could be
--- written: the receiver of least number that failed, then the beat, then a loop that took the most turns, and else that all was
--- done.
+-- What is answered after a run whose workers ended so, if its totals could be written: the receiver of least number that failed,
+-- then the beat, then a loop that took the most turns, and else that all was done.
 abbrev pub ends_answer : (receivers : List LoopEnd) → (ticker : LoopEnd) → (others : List LoopEnd) → Answer
 ends_answer receivers ticker others = by_receivers 0 receivers (by_beat ticker (if list_any reached_limit (receivers ++ ticker ∷ others) then Worn most_turns else Done))
 
--- the totals of a run: of its shards and its desk, with what was missed of texts that went through outlets, and after them how many
--- texts each outlet skipped, where there are outlets
+-- the totals of a run, with what was missed of texts in outlets, and how many texts each outlet skipped, where there are outlets
 abbrev pub run_totals : Settings → ServerTrace → List Total
 run_totals s c =
     totals_of (summed s.sizes.shards (λ i. state_after (limits_of s) (policy_of s) (c.histories i))) (record c.desk.facts {

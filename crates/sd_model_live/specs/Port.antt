@@ -6,7 +6,7 @@ use Rattle.sd_model_record.specs.{Desk.{counted}, Totals.{Total, totals_text}, A
 use Rattle.sd_model_proxy.specs.{Routes.{AreBatched, Batched, add_totals, no_totals, relay_counts, Read}, Relays.{Relay, relay_totals, EndsServing}}
 use Rattle.sd_model_ring.specs.Ring.{is_up}
 use Rattle.sd_model_outside.specs.Outside.{Object, HasFailedBehind}
-use Rattle.sd_model_serve.specs.{Doors.{ServesDoor, Visit, ends_by_fault}, Sessions.{Dialogue, HasTalked, Talk, lines_in}, Receiving.{LoopEnd}}
+use Rattle.sd_model_serve.specs.{Sessions.{ServesDoor, Visit, ends_by_fault, Dialogue, HasTalked, Talk, lines_in}, Receiving.{LoopEnd}}
 
 -- What a proxy tells of itself: what its receivers, and its reader of lines, counted; how many checks of its nodes were made, and
 -- how many of their questions failed; and whether it is said to be well. Each number stops at the last count.
@@ -128,8 +128,7 @@ health_said (Some (AboutHealth Up)) = SaysHealth true ∷ []
 health_said (Some (AboutHealth Down)) = SaysHealth false ∷ []
 health_said answer = []
 
--- what a line does at the desk: it hears the facts of its reply, and then says how the health is, if it does; a last line does
--- nothing
+-- what a line does at the desk: it hears the facts of its reply, and says how the health is, if it does; a last line does nothing
 abbrev pub line_events : PortExchange → List ProxyEvent
 line_events e = if leaves (port_command e.line) then [] else HearsFacts e.facts ∷ health_said (port_command e.line)
 

@@ -4,8 +4,8 @@ use Rattle.std.specs.{Prelude.{◌≡◌, ℕ, Bool, false, List, length, map, c
 use Rattle.sd_model_text.specs.Lists.{trim_end, is_white_space}
 use Rattle.sd_model_settings.specs.{Entries.{Node}, Settings.{Settings}}
 use Rattle.sd_model_ring.specs.Ring.{is_up}
-use Rattle.sd_model_outside.specs.{Outside.{Host, Object, Rose, last_count}, Uses.{IsSpent, with_ticks, AreAsked}}
-use Rattle.sd_model_serve.specs.Receiving.{LoopEnd, Spent, Failed, Enough, LimitReached, most_turns, HaveRun}
+use Rattle.sd_model_outside.specs.{Outside.{Host, Object, last_count}, Uses.{with_ticks, AreAsked}}
+use Rattle.sd_model_serve.specs.Receiving.{LoopEnd, EndsReceiver, HaveRun}
 use Rattle.sd_model_proxy.specs.Relays.{Relay, IsLineRelay, IsRelay}
 use Rattle.sd_model_live.specs.Port.{AreCounted, CountsCheck, ProxyAct, done_by, HasPort, has_port, first_facts, AreActs}
 
@@ -28,22 +28,15 @@ pub record IsCheck (nodes : List Node) (c : Check) : Type 0 where
 abbrev pub answers_of : List Check → List (Option (List ℕ))
 answers_of checks = flat_map (λ c. c.answers) checks
 
--- Why a checker ended, once it had made so many checks. No number of flushes ends it.
-abbrev pub EndsChecker : LoopEnd → (beat beat_now : Object) → (made : ℕ) → Type 0
-EndsChecker Spent beat beat_now made = IsSpent beat_now.content × (beat_now.faults ≡ beat.faults) × (made < most_turns)
-EndsChecker Failed beat beat_now made = Rose beat.faults beat_now.faults × (made < most_turns)
-EndsChecker (Enough flushes) beat beat_now made = ⊥
-EndsChecker (LimitReached turns) beat beat_now made = (turns ≡ most_turns) × (made ≡ most_turns) × (beat_now.faults ≡ beat.faults)
-
 -- A checker made a check at each tick that its beat gave. Each published its set, after those that were published before; the
--- questions were asked one after another, each with what came of it; and it ended so. Nothing else of the beat changed.
+-- questions were asked one after another, each with what came of it; no flushes end it. Nothing else of the beat changed.
 pub record HasChecked (nodes : List Node) (checks : List Check) (ended : LoopEnd) (history history_now : List ℕ) (beat beat_now probe probe_now : Object) : Type 0 where
   pub are : All (IsCheck nodes) checks
   pub published : history_now ≡ history ++ map (λ c. c.up) checks
   pub asked : AreAsked (flat_map (λ c. map (λ node. Host node.host node.adminport) nodes) checks) (answers_of checks) probe probe_now
   pub given : beat.content ≡ with_ticks (map (λ c. c.second) checks) beat_now.content
   pub turns : beat_now.turns ≡ min (beat.turns + length checks) last_count
-  pub ends : EndsChecker ended beat beat_now (length checks)
+  pub ends : EndsReceiver 0 ended beat beat_now 0 (length checks)
   pub same : beat_now ≡ record beat { content = beat_now.content; faults = beat_now.faults; turns = beat_now.turns }
 
 -- the set of all of so many nodes, with which a history begins

@@ -2,8 +2,9 @@
 use Rattle.std.proofs.Common.{◌≡◌, ℕ, ◌+◌, List, ◌++◌, length, take, sym, ap, subst, ◌∙◌, arith, length-append}
 use Rattle.std.proofs.lemmas.List.{take-append-le}
 use Rattle.std.proofs.Math.Seq.{take-append-add}
-use Rattle.sd_model_outside.specs.Outside.{Content, Object, HasFailedBehind, AppendsPrefix, appended, given, telling}
+use Rattle.sd_model_outside.specs.Outside.{Content, Object, HasFailedBehind, appended, given, telling}
 use Rattle.sd_model_outside.proofs.OutsideLemmas.{appended-appended}
+use Rattle.sd_model_outside.proofs.Short.{AppendsPrefix}
 
 -- a prefix of a text is a prefix of each text that begins with it
 pub AppendsPrefix-longer : (w v : Content) (xs ys : List ℕ) → AppendsPrefix w xs v → AppendsPrefix w (xs ++ ys) v

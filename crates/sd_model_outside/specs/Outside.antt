@@ -1,9 +1,7 @@
--- What the program may know of the objects outside it: what they tell of their content, how often they failed, where they were
--- opened, and what else they always tell.
+-- What is known of the objects outside the program: what they tell of their content, how often they failed, where they were opened.
 use Rattle.std.specs.Prelude.{◌≡◌, ℕ, ◌+◌, ◌-◌, ◌^◌, ◌<◌, ◌≤◌, min, take, Bool, true, false, List, [], ◌∷◌, ◌++◌, length, Option, Some, None, IfSome, get_or}
 
--- Where an object is opened: at a file by its name; at a host and a port; or where datagrams come: a host, a port, and how many
--- bytes of room are asked for.
+-- Where an object is opened: at a file, at a host and a port, or where datagrams come, with the bytes of room that are asked for.
 pub data Place : Type 0 where
   File : (name : List ℕ) → Place
   Host : (host : List ℕ) (port : ℕ) → Place
@@ -144,15 +142,11 @@ appended content xs = content
 abbrev pub given : List ℕ → Object → Object
 given bytes o = telling (appended o.content bytes) o
 
--- a prefix of the bytes was appended, and not all of them
-abbrev pub AppendsPrefix : Content → List ℕ → Content → Type 0
-AppendsPrefix old bytes new = (n : ℕ) × (n < length bytes) × (new ≡ appended old (take n bytes))
-
 -- An object was used and failed, once it was given a prefix of these bytes, and not all of them.
 pub record HasFailedBehind (bytes : List ℕ) (old new : Object) : Type 0 where
   pub used : Used old new
   pub rose : Rose old.faults new.faults
-  pub prefix : AppendsPrefix old.content bytes new.content
+  pub prefix : (n : ℕ) × (n < length bytes) × (new.content ≡ appended old.content (take n bytes))
 
 -- the lists of a backend, with one that is open
 abbrev pub lists_of : List BackendText → Option (List ℕ) → List BackendText

@@ -73,22 +73,10 @@ failures failed = count_by (λ f. f) failed
 abbrev pub AreRepeated : List Sending → List Object → List Object → Type 0
 AreRepeated sendings old new = AfterSendsOn (λ i. filter_map (λ s. option_map (λ f. record { packet = s.packet; is_failed = f }) (slice_get s.failed i)) sendings) old new
 
--- the byte that ends a line
-abbrev newline : ℕ
-newline = 10
-
--- how many bytes of a reply's first line are put out at most
-abbrev most_line : ℕ
-most_line = 1024
-
--- what an answered question puts out: the first line of the reply, cut
-abbrev pub first_line_of : List ℕ → List ℕ
-first_line_of reply = take most_line (take_while (λ byte. not (byte == newline)) reply)
-
 -- what a probe tells after a question that was answered by a line, which takes the next reply, or that failed
 abbrev pub Tells : Place → Option (List ℕ) → Content → Content → Type 0
 Tells place (Some line) (Replies (reply ∷ left) questions) new =
-    (line ≡ first_line_of reply) × (new ≡ Replies left (questions ++ record { place = place; is_answered = true } ∷ []))
+    (line ≡ take 1024 (take_while (λ byte. not (byte == 10)) reply)) × (new ≡ Replies left (questions ++ record { place = place; is_answered = true } ∷ []))
 Tells place (Some line) (Replies [] questions) new = ⊥
 Tells place None (Replies left questions) new = new ≡ Replies left (questions ++ record { place = place; is_answered = false } ∷ [])
 Tells place answer content new = new ≡ content
@@ -98,8 +86,7 @@ abbrev pub FaultsBy : Option (List ℕ) → ℕ → ℕ → Type 0
 FaultsBy (Some line) before now = now ≡ before
 FaultsBy None before now = Rose before now
 
--- A question was asked at a place, and answered by a line or not. The probe may tell nothing from then on, and nothing else
--- changed.
+-- A question was asked at a place, and answered by a line or not. The probe may tell nothing from then on; nothing else changed.
 pub record HasAsked (place : Place) (answer : Option (List ℕ)) (old new : Object) : Type 0 where
   pub used : Used old new
   pub faults : FaultsBy answer old.faults new.faults
@@ -127,15 +114,13 @@ abbrev pub FitsUse : Bool → Mark → Type 0
 FitsUse true mark = mark ≢ NotUsed
 FitsUse false mark = mark ≡ NotUsed
 
--- A flush failed at a backend: it was used, its count of faults rose, and it was given nothing, or a prefix of the text, which may
--- be all of it, in a list that isn't ended.
+-- A flush failed at a backend: its count of faults rose, and it was given nothing, or a prefix of the text, in an open list.
 pub record HasMissed (text : List ℕ) (old new : Object) : Type 0 where
   pub used : Used old new
   pub rose : Rose old.faults new.faults
   pub prefix : (new.content ≡ old.content) ⊎ ((n : ℕ) × (n ≤ length text) × (new.content ≡ appended (begun old.content) (take n text)))
 
--- What a flush does to a backend, by its mark: it is given the whole text, in a list that is begun and ended, and nothing else of
--- it changes; it is untouched; it missed the flush.
+-- What a flush does to a backend, by its mark: it is given the whole text, begun and ended; it is untouched; it missed the flush.
 abbrev pub AfterMark : Mark → List ℕ → Object → Object → Type 0
 AfterMark Written text old new = new ≡ telling (ended (appended (begun old.content) text)) old
 AfterMark NotUsed text old new = new ≡ old

@@ -1,5 +1,5 @@
-ghost use Rattle.std.specs.Prelude.{◌≡◌, ℕ, ◌+◌, List, [], ◌∷◌, ◌++◌, length, Option, min, true};
-ghost use Rattle.sd_model_outside.specs.Outside.{AppendsPrefix, BackendText, Content, Unknown, Number, Bytes, Rounds, Reads, appended, begun, ended, lists_of, last_count};
+ghost use Rattle.std.specs.Prelude.{◌≡◌, ℕ, ◌+◌, List, [], ◌∷◌, ◌++◌, length, Option, min, true, take, ◌<◌};
+ghost use Rattle.sd_model_outside.specs.Outside.{BackendText, Content, Unknown, Number, Bytes, Rounds, Reads, appended, begun, ended, lists_of, last_count};
 
 /// Two writes one after the other are one write.
 pub fn writes_join()
@@ -25,7 +25,7 @@ pub fn reads_join()
 
 /// What a write of two texts one after the other leaves, where one of the two fails.
 pub fn prefixes_join()
-    ensures longer { (w v : Content) (xs ys : List ℕ) → AppendsPrefix w xs v → AppendsPrefix w (xs ++ ys) v }
+    ensures longer { (w v : Content) (xs ys : List ℕ) → ((n : ℕ) × (n < length xs) × (v ≡ appended w (take n xs))) → (n : ℕ) × (n < length (xs ++ ys)) × (v ≡ appended w (take n (xs ++ ys))) }
     ensures later { (w v : Content) (xs ys : List ℕ)
-        → AppendsPrefix (appended w xs) ys v → AppendsPrefix w (xs ++ ys) v }
+        → ((n : ℕ) × (n < length ys) × (v ≡ appended (appended w xs) (take n ys))) → (n : ℕ) × (n < length (xs ++ ys)) × (v ≡ appended w (take n (xs ++ ys))) }
 {}

@@ -5,8 +5,8 @@ use Rattle.std.proofs.lemmas.List.{map-append, length-set, get_or-set_same, set-
 use Rattle.sd_model_outside.specs.Outside.{Object}
 use Rattle.sd_model_outside.specs.Uses.{AfterSends, AfterSendsOn, WireSend}
 use Rattle.sd_model_record.proofs.WireLemmas.{AfterSendsOn-next, AfterSendsOn-none, AfterSendsOn-one}
-use Rattle.sd_model_proxy.specs.Routes.{Batch, Batched, send_of}
-use Rattle.sd_model_proxy.proofs.Short.{AreForwarded}
+use Rattle.sd_model_proxy.specs.Routes.{Batch, Batched}
+use Rattle.sd_model_proxy.proofs.Short.{AreForwarded, send_of}
 
 -- packets, and after them others to the same nodes
 abbrev pub behind : Batched → Batched → Batched

@@ -1,15 +1,31 @@
 -- Short names that proofs have for parts of definitions.
-use Rattle.std.specs.Prelude.{List, ℕ, sum_by, ◌≡◌, flat_map, map, Option, Bool, length, nat_le, [], filter}
+use Rattle.std.specs.Prelude.{List, ℕ, sum_by, ◌≡◌, flat_map, map, Option, Bool, length, nat_le, [], filter, count_by, if◌then◌else◌}
 use Rattle.std.specs.Option.{option_map_or}
-use Rattle.sd_model_proxy.specs.Routes.{Read, Route, route, To, Unowned, Bad, joined, Batched, send_of, goes_to}
+use Rattle.sd_model_proxy.specs.Routes.{Read, Route, route, To, Unowned, Bad, joined, Batched, goes_to, Batch}
 use Rattle.sd_model_text.specs.Lines.{lines}
 use Rattle.sd_model_settings.specs.Entries.{Node}
 use Rattle.sd_model_ring.specs.Ring.{owner}
 use Rattle.sd_model_stream.specs.Streams.{Stream, StreamLine}
-use Rattle.sd_model_proxy.specs.Relays.{lines_ended, IsLineRelay, Relay, IsRelay}
+use Rattle.sd_model_proxy.specs.Relays.{lines_ended, IsLineRelay, Relay, IsRelay, is_long, lines_of_cut}
 use Rattle.sd_model_serve.specs.Receiving.{HaveRun}
 use Rattle.sd_model_outside.specs.Outside.{Object}
-use Rattle.sd_model_outside.specs.Uses.{AfterSendsOn}
+use Rattle.sd_model_outside.specs.Uses.{AfterSendsOn, WireSend}
+
+-- the send of a packet
+abbrev pub send_of : Batch → WireSend
+send_of b = record { packet = joined b.lines; is_failed = b.is_failed }
+
+-- how many lines the packets have whose sends failed
+abbrev pub lines_not_sent : List Batch → ℕ
+lines_not_sent batches = sum_by (λ b. if b.is_failed then length b.lines else 0) batches
+
+-- how many lines the packets have that were sent
+abbrev pub lines_sent : List Batch → ℕ
+lines_sent batches = sum_by (λ b. if b.is_failed then 0 else length b.lines) batches
+
+-- the lines that one read ended were read together
+abbrev pub IsReadOfLines : List StreamLine → Read → Type 0
+IsReadOfLines cuts r = (r.lines ≡ flat_map lines_of_cut cuts) × (r.long ≡ count_by is_long cuts)
 
 -- the lines read together that go to the node in a place, in order
 abbrev pub lines_to : List Node → ℕ → Read → List (List ℕ)

@@ -8,11 +8,11 @@ use Rattle.std.proofs.lemmas.List.Sums.{length-filter, sum_by-append, sum_by-con
 use Rattle.sd_model_settings.specs.Entries.{Node}
 use Rattle.sd_model_record.specs.Desk.{counted}
 use Rattle.sd_model_record.specs.Totals.{Total, number_in}
-use Rattle.sd_model_proxy.specs.Routes.{AreBatched, Batch, Batched, add_totals, lines_not_sent, lines_sent, no_totals, over_nodes, sums_of_totals, totals_by, Bad, Read, Route, To, Unowned, goes_to, is_bad, is_unowned, route}
+use Rattle.sd_model_proxy.specs.Routes.{AreBatched, Batch, Batched, add_totals, no_totals, over_nodes, sums_of_totals, totals_by, Bad, Read, Route, To, Unowned, goes_to, is_bad, is_unowned, route}
 use Rattle.sd_model_proxy.proofs.BatchLemmas.{packets-lines}
 use Rattle.sd_model_proxy.proofs.RouteLemmas.{goes-node}
 use Rattle.sd_model_proxy.proofs.SendLemmas.{behind, only, only-elsewhere, only-here}
-use Rattle.sd_model_proxy.proofs.Short.{long_in, routes_of, lines_to}
+use Rattle.sd_model_proxy.proofs.Short.{long_in, routes_of, lines_to, lines_sent, lines_not_sent}
 use Rattle.sd_model_shard.specs.Shard.{last_number}
 
 pub both_sums : {X : Type 0} (f g h : X → ℕ) → ((x : X) → h x ≡ f x + g x) → (xs : List X) → sum_by h xs ≡ sum_by f xs + sum_by g xs

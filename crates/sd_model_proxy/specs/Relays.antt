@@ -4,10 +4,10 @@ use Rattle.std.specs.{Prelude.{◌≡◌, ℕ, ◌+◌, ◌≤◌, min, List, le
 use Rattle.sd_model_text.specs.Lines.{lines}
 use Rattle.sd_model_outside.specs.{Outside.{Object, last_count}, Uses.{with_datagrams, IsSpent, AfterSendsOn}}
 use Rattle.sd_model_settings.specs.Entries.{Node}
-use Rattle.sd_model_serve.specs.{Receiving.{LoopEnd, EndsReceiver, Spent, Failed, Enough, LimitReached, most_turns}, Doors.{ServesDoor, Visit}}
-use Rattle.sd_model_proxy.specs.Routes.{Read, AreBatched, Batched, add_totals, no_totals, sums_of_totals, relay_counts, send_of}
+use Rattle.sd_model_serve.specs.{Receiving.{LoopEnd, EndsReceiver, Spent, Failed, Enough, LimitReached, most_turns}, Sessions.{ServesDoor, Visit}}
+use Rattle.sd_model_proxy.specs.Routes.{Read, AreBatched, Batched, add_totals, no_totals, sums_of_totals, relay_counts, joined}
 use Rattle.sd_model_record.specs.Totals.{Total}
-use Rattle.sd_model_stream.specs.Streams.{AreStreamsOf, StreamLine, Line, Long, Stream, stream_lines}
+use Rattle.sd_model_stream.specs.Streams.{StreamLine, Line, Long, Stream, stream_lines, IsStreamOf}
 
 -- What a receiver of a proxy did, or its reader of lines: the datagrams that it read, of which a reader of lines has none; its
 -- reads, each with the nodes that were up; the packets of their lines to each node; and how it ended.
@@ -22,7 +22,7 @@ pub record Relay : Type 0 where
 pub record HasForwarded (most : ℕ) (nodes : List Node) (r : Relay) (wires wires_now : List Object) : Type 0 where
   pub packets : AreBatched most nodes r.reads r.batched
   pub each : length wires ≡ length nodes
-  pub sends : AfterSendsOn (λ place. map send_of (r.batched place)) wires wires_now
+  pub sends : AfterSendsOn (λ place. map (λ b. record { packet = joined b.lines; is_failed = b.is_failed }) (r.batched place)) wires wires_now
 
 -- A receiver's datagrams are those that its source has given since, in order, and their lines, datagram by datagram, are what it
 -- read and sent on its wires. It ended so once its source had taken so many turns, counted up to the last count; no flushes end it.
@@ -41,10 +41,6 @@ pub record IsRelay (most : ℕ) (nodes : List Node) (r : Relay) (source source_n
 abbrev pub relay_totals : List Node → Relay → List Total
 relay_totals nodes r = add_totals no_totals (relay_counts nodes (length r.datagrams) r.reads r.batched)
 
--- the totals of these, added up
-abbrev pub relays_totals : List Node → List Relay → List Total
-relays_totals nodes relays = sums_of_totals (map (relay_totals nodes) relays)
-
 -- the lines of a line of a stream: those of a datagram of its bytes; one that is too long has none
 abbrev pub lines_of_cut : StreamLine → List (List ℕ)
 lines_of_cut (Line bytes) = lines bytes
@@ -60,10 +56,6 @@ abbrev pub lines_ended : (before : List ℕ) → (reads : List (List ℕ)) → L
 lines_ended before [] = []
 lines_ended before (bytes ∷ reads) = drop (length (stream_lines before)) (stream_lines (before ++ bytes)) ∷ lines_ended (before ++ bytes) reads
 
--- the lines that one read ended were read together
-abbrev pub IsReadOfLines : List StreamLine → Read → Type 0
-IsReadOfLines cuts r = (r.lines ≡ flat_map lines_of_cut cuts) × (r.long ≡ count_by is_long cuts)
-
 -- Why the serving of a door ended: it has nothing left; or it took so many turns, which are the most. Its failures don't end it.
 abbrev pub EndsServing : LoopEnd → (door door_now : Object) → Type 0
 EndsServing Spent door door_now = IsSpent door_now.content
@@ -78,8 +70,8 @@ pub record IsLineRelay (most : ℕ) (nodes : List Node) (r : Relay) (door door_n
   pub failures : ℕ
   pub streams : List Stream
   pub served : ServesDoor visits failures door door_now
-  pub went : AreStreamsOf visits streams
+  pub went : AllZip IsStreamOf visits streams
   pub none : r.datagrams ≡ []
-  pub read : AllZip IsReadOfLines (flat_map (λ s. lines_ended [] s.reads) streams) r.reads
+  pub read : AllZip (λ cuts r. (r.lines ≡ flat_map lines_of_cut cuts) × (r.long ≡ count_by is_long cuts)) (flat_map (λ s. lines_ended [] s.reads) streams) r.reads
   pub forwarded : HasForwarded most nodes r wires wires_now
   pub ends : EndsServing r.ended door door_now

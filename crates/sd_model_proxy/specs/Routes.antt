@@ -1,5 +1,4 @@
--- Where a line goes among the nodes that are up; which lines go together in one packet to a node, which sends that makes on the
--- wires of the nodes, and what lines count for.
+-- Where a line goes among the nodes that are up; which lines go together in one packet to a node; and what lines count for.
 use Rattle.std.specs.{Prelude.{ℕ, ◌==◌, Bool, true, false, List, filter, Option, ◌≡◌, ◌+◌, nat_le, if◌then◌else◌, [], ◌∷◌, ◌++◌, length, map, flat_map, codes, count_by, sum_by, option_map}, Option.{option_and_then, option_map_or}, Result.{result_ok}, List.{join_with_byte, range_with_len}}
 use Rattle.sd_model_text.specs.{Names.{clean}, Lists.{cut_at}}
 use Rattle.sd_model_settings.specs.Entries.{Node}
@@ -35,8 +34,7 @@ abbrev pub is_unowned : Route → Bool
 is_unowned Unowned = true
 is_unowned goes = false
 
--- Lines that were read together: those of a datagram, or those that one read of a stream ended; how many lines were too long
--- besides; and the set of nodes that were up for all of them.
+-- Lines of a datagram, or that a read of a stream ended; how many were too long besides; the nodes that were up for all of them.
 pub record Read : Type 0 where
   pub lines : List (List ℕ)
   pub long : ℕ
@@ -70,18 +68,6 @@ Batched = ℕ → List Batch
 abbrev pub AreBatched : (most : ℕ) → List Node → List Read → Batched → Type 0
 AreBatched most nodes reads batched = (place : ℕ) → map (λ b. b.lines) (batched place) ≡ flat_map (λ r. batches most (filter (λ line. goes_to place (route line nodes r.up)) r.lines)) reads
 
--- the send of a packet
-abbrev pub send_of : Batch → WireSend
-send_of b = record { packet = joined b.lines; is_failed = b.is_failed }
-
--- how many lines the packets have that were sent
-abbrev pub lines_sent : List Batch → ℕ
-lines_sent batches = sum_by (λ b. if b.is_failed then 0 else length b.lines) batches
-
--- how many lines the packets have whose sends failed
-abbrev pub lines_not_sent : List Batch → ℕ
-lines_not_sent batches = sum_by (λ b. if b.is_failed then length b.lines else 0) batches
-
 -- a number of the packets to each node, added up
 abbrev pub over_nodes : List Node → Batched → (List Batch → ℕ) → ℕ
 over_nodes nodes batched number = sum_by (λ place. number (batched place)) (range_with_len 0 (length nodes))
@@ -92,9 +78,9 @@ totals_by nodes packets long routes batched =
     (codes "packets", packets)
     ∷ (codes "lines", length routes + long)
     ∷ (codes "bad", count_by is_bad routes + long)
-    ∷ (codes "sent", over_nodes nodes batched lines_sent)
+    ∷ (codes "sent", over_nodes nodes batched (λ batches. sum_by (λ b. if b.is_failed then 0 else length b.lines) batches))
     ∷ (codes "unowned", count_by is_unowned routes)
-    ∷ (codes "send_faults", over_nodes nodes batched lines_not_sent)
+    ∷ (codes "send_faults", over_nodes nodes batched (λ batches. sum_by (λ b. if b.is_failed then length b.lines else 0) batches))
     ∷ []
 
 -- what so many datagrams, and reads with the packets of their lines, count for

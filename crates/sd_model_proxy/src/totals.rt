@@ -1,8 +1,8 @@
-ghost use Rattle.std.specs.Prelude.{◌≡◌, ℕ, ◌+◌, ◌<◌, List, [], ◌∷◌, ◌++◌, codes};
+ghost use Rattle.std.specs.Prelude.{◌≡◌, ℕ, ◌+◌, ◌<◌, List, [], ◌∷◌, ◌++◌, codes, map};
 ghost use Rattle.sd_model_settings.specs.Entries.{Node};
 ghost use Rattle.sd_model_record.specs.Totals.{number_in};
 ghost use Rattle.sd_model_proxy.specs.Routes.{AreBatched, Batched, sums_of_totals, relay_counts, Read};
-ghost use Rattle.sd_model_proxy.specs.Relays.{Relay, relay_totals, relays_totals};
+ghost use Rattle.sd_model_proxy.specs.Relays.{Relay, relay_totals};
 ghost use Rattle.sd_model_shard.specs.Shard.{last_number};
 
 /// Each line was bad, was sent, had no owner, or its packet's send failed. So the number of lines is the sum of these, in a
@@ -18,7 +18,7 @@ pub fn lines_have_one_fate()
 
 /// The sums of one receiver's totals are these totals, and those of receivers after others are the sums of both.
 pub fn totals_add_up()
-    ensures one { (nodes : List Node) (r : Relay) → relays_totals nodes (r ∷ []) ≡ relay_totals nodes r }
+    ensures one { (nodes : List Node) (r : Relay) → sums_of_totals (map (relay_totals nodes) (r ∷ [])) ≡ relay_totals nodes r }
     ensures more { (nodes : List Node) (xs ys : List Relay)
-        → relays_totals nodes (xs ++ ys) ≡ sums_of_totals (relays_totals nodes xs ∷ relays_totals nodes ys ∷ []) }
+        → sums_of_totals (map (relay_totals nodes) (xs ++ ys)) ≡ sums_of_totals (sums_of_totals (map (relay_totals nodes) xs) ∷ sums_of_totals (map (relay_totals nodes) ys) ∷ []) }
 {}

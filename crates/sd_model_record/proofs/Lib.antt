@@ -1,6 +1,5 @@
 pub mod Short
 pub mod CountLemmas
-pub mod DeskLemmas
 pub mod OrderLemmas
 pub mod SentLemmas
 pub mod WireLemmas

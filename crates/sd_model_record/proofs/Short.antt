@@ -4,19 +4,33 @@ use Rattle.std.specs.FinMap.{entries}
 use Rattle.std.specs.Option.{option_map_or}
 use Rattle.sd_model_settings.specs.Settings.{Plan, Names}
 use Rattle.sd_model_shard.specs.Shard.{Table, Numbers}
-use Rattle.sd_model_shard.specs.Rows.{RowId, Kept, DumpRow, in_key_order}
-use Rattle.sd_model_record.specs.Record.{Row, TimerFigures, Figure, part_figures, whole_figures, bin_figure, row_of_kind, figure, documented_by}
-use Rattle.sd_model_shard.specs.Values.{WholeStatistics, bins}
-use Rattle.sd_model_record.specs.Desk.{Desk, Marks, marked, taken, new_desk, Facts}
-use Rattle.sd_model_record.specs.DeskHistory.{DeskHistory, desk_step, AnswersFrom}
+use Rattle.sd_model_shard.specs.Rows.{RowId, Kept, DumpRow, in_key_order, statistics_by}
+use Rattle.sd_model_record.specs.Record.{Row, TimerFigures, Figure, part_figures, whole_figures, row_of_kind, figure, bin_name, whole_number}
+use Rattle.sd_model_shard.specs.Values.{WholeStatistics, bins, Bin}
+use Rattle.sd_model_record.specs.Desk.{Desk, Marks, new_desk, Facts}
+use Rattle.sd_model_record.specs.DeskHistory.{DeskHistory, desk_step, AnswersFrom, Take, Mark}
 use Rattle.sd_model_settings.specs.ConfigText.{config_line}
 use Rattle.sd_model_text.specs.Names.{Kind}
 use Rattle.sd_model_record.specs.Replies.{shown_value, numbers_looked, keys_in, rows_in, shard_lines}
 use Rattle.sd_model_shard.specs.Shard as shard
-use Rattle.sd_model_record.specs.Backends.{dotted}
-use Rattle.sd_model_settings.specs.Entries.{Count, CountPs}
-use Rattle.sd_model_shard.specs.Whereabouts.{Flushed}
+use Rattle.sd_model_record.specs.Backends.{dotted, graphite_line, path_prefix}
+use Rattle.sd_model_settings.specs.Entries.{Count, CountPs, Histogram}
+use Rattle.sd_model_shard.specs.History.{Flushed}
 use Rattle.sd_model_record.specs.Totals.{known_before_end, total_line, totals_of}
+use Rattle.sd_model_text.specs.Numbers.{number_text}
+
+-- the line of a timer's figure
+abbrev pub figure_line : Names → ℕ → List ℕ → Figure → List ℕ
+figure_line names ts key f =
+    graphite_line names (path_prefix names (codes "stats.timers.") names.namespace.prefix_timer ++ key ++ 46 ∷ f.name) (number_text f.value) ts
+
+-- the line of a timer's figure
+abbrev pub console_figure : List ℕ → Figure → List ℕ
+console_figure key f = codes "timer " ++ key ++ 32 ∷ f.name ++ 32 ∷ number_text f.value ++ 10 ∷ []
+
+-- the figure of a bin
+abbrev pub bin_figure : Bin → Figure
+bin_figure b = figure Histogram (bin_name b.below) (whole_number b.count)
 
 -- the totals so far that are known before the end, and a line for each shard
 abbrev pub totals_lines : (outlets : Bool) → Facts → List Numbers → List (List ℕ)
@@ -24,7 +38,7 @@ totals_lines outlets facts shards = map total_line (known_before_end outlets (to
 
 -- the rows of what a swap flushed, each with its id
 abbrev pub documented_in : Plan → Flushed → List (RowId × Row)
-documented_in plan f = map (λ e. (e.0, documented_by e.0.kind plan f.journal e.0 e.1.base)) (entries f.table.live)
+documented_in plan f = map (λ e. (e.0, row_of_kind e.0.kind plan e.0.key (statistics_by e.0.kind e.0 e.1.base f.journal))) (entries f.table.live)
 
 -- the figures of a timer without samples
 abbrev pub idle_figures : TimerFigures → List Figure
@@ -76,7 +90,7 @@ desk_left d acts = fold (λ d a. desk_step d a.call.event) d acts
 
 -- after a flush, which takes the tally and leaves its marks
 abbrev pub with_round : Desk → Marks → Desk
-with_round d m = marked (taken d) m
+with_round d m = desk_step (desk_step d Take) (Mark m)
 
 -- the rows of a table, each with its id
 abbrev pub table_rows : Plan → Table → List (RowId × Row)

@@ -1,5 +1,4 @@
--- Admin commands: what a line asks for, or why it asks for nothing. The commands but `totals`, `config` and `quit` are those of
--- StatsD's admin interface (docs/admin_interface.md).
+-- Admin commands (StatsD, docs/admin_interface.md; `totals`, `config`, `quit` are ours): what a line asks for, or its fault.
 use Rattle.std.specs.{Prelude.{ℕ, not, nat_le, if◌then◌else◌, List, [], ◌∷◌, length, filter, Result, Ok, Err, codes}, List.{slice_split}, Str.{bytes_eq}}
 use Rattle.sd_model_text.specs.{Lists.{is_white_space}, Names.{Kind, Counter, Timer, Gauge}, Lines.{is_empty}}
 

@@ -7,14 +7,10 @@ use Rattle.sd_model_settings.specs.Settings.{Names}
 use Rattle.sd_model_record.specs.{Record.{Record, Row, CounterRow, TimerRow, GaugeRow, SetRow, Figure, whole_number, sent_figures}, Desk.{Marks}}
 use Rattle.sd_model_text.specs.Numbers.{number_text, per_second}
 
--- the line of a timer's figure
-abbrev pub console_figure : List ℕ → Figure → List ℕ
-console_figure key f = codes "timer " ++ key ++ 32 ∷ f.name ++ 32 ∷ number_text f.value ++ 10 ∷ []
-
 -- the lines of a row, by the names of the classes of timers' lines that are chosen
 abbrev pub console_row : List (List ℕ) → Row → List ℕ
 console_row calculated (CounterRow key count rate) = codes "counter " ++ key ++ 32 ∷ number_text count ++ 32 ∷ number_text rate ++ 10 ∷ []
-console_row calculated (TimerRow key timer) = flat_map (console_figure key) (sent_figures calculated timer)
+console_row calculated (TimerRow key timer) = flat_map (λ f. codes "timer " ++ key ++ 32 ∷ f.name ++ 32 ∷ number_text f.value ++ 10 ∷ []) (sent_figures calculated timer)
 console_row calculated (GaugeRow key value) = codes "gauge " ++ key ++ 32 ∷ number_text value ++ 10 ∷ []
 console_row calculated (SetRow key count) = codes "set " ++ key ++ 32 ∷ decimal count ++ 10 ∷ []
 
@@ -55,25 +51,16 @@ path_prefix names legacy prefix = if names.namespace.legacy then legacy else dot
 abbrev pub graphite_line : Names → List ℕ → List ℕ → ℕ → List ℕ
 graphite_line names path value ts = path ++ suffix names ++ 32 ∷ value ++ 32 ∷ decimal ts ++ 10 ∷ []
 
--- what is after a counter's key outside of the legacy namespace
-abbrev pub counter_back : Names → List ℕ → List ℕ
-counter_back names back = if names.namespace.legacy then [] else back
-
 -- a counter's two lines
 abbrev pub counter_lines : Names → ℕ → List ℕ → ℤ → ℤ → List ℕ
 counter_lines names ts key count rate =
-    graphite_line names (path_prefix names (codes "stats.") names.namespace.prefix_counter ++ key ++ counter_back names (codes ".rate")) (number_text rate) ts
-    ++ graphite_line names (path_prefix names (codes "stats_counts.") names.namespace.prefix_counter ++ key ++ counter_back names (codes ".count")) (number_text count) ts
-
--- the line of a timer's figure
-abbrev pub figure_line : Names → ℕ → List ℕ → Figure → List ℕ
-figure_line names ts key f =
-    graphite_line names (path_prefix names (codes "stats.timers.") names.namespace.prefix_timer ++ key ++ 46 ∷ f.name) (number_text f.value) ts
+    graphite_line names (path_prefix names (codes "stats.") names.namespace.prefix_counter ++ key ++ (if names.namespace.legacy then [] else codes ".rate")) (number_text rate) ts
+    ++ graphite_line names (path_prefix names (codes "stats_counts.") names.namespace.prefix_counter ++ key ++ (if names.namespace.legacy then [] else codes ".count")) (number_text count) ts
 
 -- the lines of a row, by the names of the classes of timers' lines that are chosen
 abbrev pub row_lines : Names → List (List ℕ) → ℕ → Row → List ℕ
 row_lines names calculated ts (CounterRow key count rate) = counter_lines names ts key count rate
-row_lines names calculated ts (TimerRow key timer) = flat_map (figure_line names ts key) (sent_figures calculated timer)
+row_lines names calculated ts (TimerRow key timer) = flat_map (λ f. graphite_line names (path_prefix names (codes "stats.timers.") names.namespace.prefix_timer ++ key ++ 46 ∷ f.name) (number_text f.value) ts) (sent_figures calculated timer)
 row_lines names calculated ts (GaugeRow key value) =
     graphite_line names (path_prefix names (codes "stats.gauges.") names.namespace.prefix_gauge ++ key) (number_text value) ts
 row_lines names calculated ts (SetRow key count) =

@@ -1,6 +1,6 @@
 -- The desk: what the server counts of itself.
 use Rattle.std.specs.Prelude.{◌≡◌, ℕ, ◌+◌, ◌<◌, min, Bool, true}
-use Rattle.sd_model_outside.specs.Uses.{Mark, fault_of}
+use Rattle.sd_model_outside.specs.Uses.{Mark}
 use Rattle.sd_model_record.specs.Record.{Tally}
 use Rattle.sd_model_shard.specs.Shard.{last_number}
 
@@ -49,37 +49,6 @@ pub record Desk : Type 0 where
 -- its desk
 abbrev pub new_desk : ℕ → Desk
 new_desk start = record { facts = record { start = start; last = start; totals = no_tally; up = true; rounds = 0; graphite_faults = 0; console_faults = 0; repeater_faults = 0; admin_faults = 0 }; tally = no_tally; taken_so_far = no_tally }
-
--- after a datagram was counted, which came now
-abbrev pub with_tally : Desk → Tally → ℕ → Desk
-with_tally d t now = record d { facts = record d.facts { totals = add_tally d.facts.totals t; last = now }; tally = add_tally d.tally t }
-
--- after the tally was taken, which begins anew
-abbrev pub taken : Desk → Desk
-taken d = record d { tally = no_tally; taken_so_far = add_tally d.taken_so_far d.tally }
-
--- after the marks of a flush
-abbrev pub marked : Desk → Marks → Desk
-marked d m =
-    record d {
-      facts = record d.facts {
-        rounds = counted d.facts.rounds 1;
-        graphite_faults = counted d.facts.graphite_faults (fault_of m.graphite);
-        console_faults = counted d.facts.console_faults (fault_of m.console);
-      };
-    }
-
--- after the server was said to be well, or not
-abbrev pub with_health : Desk → Bool → Desk
-with_health d up = record d { facts = record d.facts { up = up } }
-
--- after an admin session failed
-abbrev pub with_admin_fault : Desk → Desk
-with_admin_fault d = record d { facts = record d.facts { admin_faults = counted d.facts.admin_faults 1 } }
-
--- after so many sends of the repeater failed
-abbrev pub with_repeater_faults : Desk → ℕ → Desk
-with_repeater_faults d n = record d { facts = record d.facts { repeater_faults = counted d.facts.repeater_faults n } }
 
 -- a total that hasn't reached the last count is what was taken and what was counted since
 abbrev pub IsWhole : ℕ → ℕ → ℕ → Type 0

@@ -1,7 +1,8 @@
 -- The history of the desk: who asked what of it, and what it answered.
 use Rattle.std.specs.Prelude.{◌≡◌, ⊤, ℕ, Bool, List, [], ◌∷◌, fold, map}
+use Rattle.sd_model_outside.specs.Uses.{fault_of}
 use Rattle.sd_model_shard.specs.History.{part_of}
-use Rattle.sd_model_record.specs.{Record.{Tally}, Desk.{Desk, Facts, Marks, new_desk, with_tally, taken, with_health, marked, with_admin_fault, with_repeater_faults}}
+use Rattle.sd_model_record.specs.{Record.{Tally}, Desk.{Desk, Facts, Marks, new_desk, add_tally, no_tally, counted}}
 
 -- What a caller asks of the desk: to add what was read at this moment; to take the tally; to keep whether the server is well; to
 -- count a flush with these marks, a failed admin session, or failed sends of the repeater; to tell its facts.
@@ -22,12 +23,19 @@ pub data DeskAnswer : Type 0 where
 
 -- the desk after an event
 abbrev pub desk_step : Desk → DeskEvent → Desk
-desk_step d (Add tally now) = with_tally d tally now
-desk_step d Take = taken d
-desk_step d (SetHealth up) = with_health d up
-desk_step d (Mark marks) = marked d marks
-desk_step d AdminFault = with_admin_fault d
-desk_step d (RepeaterFaults sends) = with_repeater_faults d sends
+desk_step d (Add tally now) = record d { facts = record d.facts { totals = add_tally d.facts.totals tally; last = now }; tally = add_tally d.tally tally }
+desk_step d Take = record d { tally = no_tally; taken_so_far = add_tally d.taken_so_far d.tally }
+desk_step d (SetHealth up) = record d { facts = record d.facts { up = up } }
+desk_step d (Mark marks) =
+    record d {
+      facts = record d.facts {
+        rounds = counted d.facts.rounds 1;
+        graphite_faults = counted d.facts.graphite_faults (fault_of marks.graphite);
+        console_faults = counted d.facts.console_faults (fault_of marks.console);
+      };
+    }
+desk_step d AdminFault = record d { facts = record d.facts { admin_faults = counted d.facts.admin_faults 1 } }
+desk_step d (RepeaterFaults sends) = record d { facts = record d.facts { repeater_faults = counted d.facts.repeater_faults sends } }
 desk_step d Look = d
 
 -- what the desk answers to it
@@ -62,24 +70,3 @@ AnswersFrom d (a ∷ acts) = (a.call.answer ≡ desk_answer d a.call.event) × A
 -- the desk after a history
 abbrev pub desk_after : ℕ → DeskHistory → Desk
 desk_after start acts = fold (λ x a. desk_step x a.call.event) (new_desk start) acts
-
--- whether the server is well after an event: as was said, or as before
-abbrev pub health_after_event : Bool → DeskEvent → Bool
-health_after_event before (SetHealth up) = up
-health_after_event before event = before
-
--- the moment of the last message after an event: that at which it came, or as before
-abbrev pub last_after : ℕ → DeskEvent → ℕ
-last_after before (Add tally now) = now
-last_after before event = before
-
--- facts that were told are of this start, this health and this last message
-abbrev pub IsReportedAs : (start : ℕ) → (up : Bool) → (last : ℕ) → DeskAnswer → Type 0
-IsReportedAs start up last (Reported facts) = (facts.start ≡ start) × (facts.up ≡ up) × (facts.last ≡ last)
-IsReportedAs start up last answer = ⊤
-
--- All facts that acts were told have this start, the health that was set last before, and the moment of the last message before;
--- where none was, this health and this moment.
-abbrev pub TellsFrom : (start : ℕ) → (up : Bool) → (last : ℕ) → DeskHistory → Type 0
-TellsFrom start up last [] = ⊤
-TellsFrom start up last (a ∷ acts) = IsReportedAs start up last a.call.answer × TellsFrom start (health_after_event up a.call.event) (last_after last a.call.event) acts

@@ -73,8 +73,7 @@ reply_lines (Fault fault) = fault_line fault ∷ []
 abbrev pub reply_text : AdminReply → List ℕ
 reply_text reply = concat (reply_lines reply)
 
--- what an admin line asks of each shard: a deletion for each name of its command, in their order, a dump, or its numbers; and
--- nothing where its command is another one, or it has none
+-- what an admin line asks of each shard: a deletion for each of its names, in their order, a dump, its numbers, or nothing
 abbrev pub admin_events : Result admin.Command AdminFault → List shard.Event
 admin_events (Ok (admin.Delete kind names)) = map (shard.Delete kind) names
 admin_events (Ok (admin.Show kind)) = shard.Dump kind ∷ []
@@ -108,9 +107,8 @@ health_after Down up = false
 health_after Ask up = up
 
 -- What is replied to an admin line that came now, by its command or its fault, where backends have outlets or none, from what all
--- shards answer to each event that it asks for, by the event's number from 0: the facts of the desk; these with the numbers of each
--- shard; the settings in force; nothing to `quit`; the rows of a dump; what each name deleted, and the end; the health, as the line
--- leaves it; the fault.
+-- shards answer to each of its events, by number from 0: the facts of the desk; these with the numbers of each shard; the settings;
+-- nothing to `quit`; the rows of a dump; what each name deleted, and the end; the health, as the line leaves it; the fault.
 abbrev pub replies_by : (outlets : Bool) → (ℕ → List shard.Reply) → Facts → file.Settings → ℕ → Result admin.Command AdminFault → List AdminReply
 replies_by outlets answers facts settings now (Ok admin.Stats) = Stats facts now ∷ []
 replies_by outlets answers facts settings now (Ok admin.Totals) = Totals outlets facts (flat_map numbers_looked (answers 0)) ∷ []

@@ -1,5 +1,5 @@
 -- Totals: what was counted, by name, and the text of that; and the desk's numbers that only grow.
-use Rattle.std.specs.{Prelude.{ℕ, Bool, not, ◌||◌, if◌then◌else◌, List, [], ◌∷◌, ◌++◌, codes, decimal, filter, flat_map, ◌≡◌, ◌⊎◌, ⊤, slice_index}, Str.{bytes_eq}}
+use Rattle.std.specs.{Prelude.{ℕ, Bool, not, ◌||◌, if◌then◌else◌, List, [], ◌∷◌, ◌++◌, codes, decimal, filter, flat_map, ◌≡◌, ◌⊎◌, ⊤}, Str.{bytes_eq}}
 use Rattle.sd_model_shard.specs.Shard.{Numbers}
 use Rattle.sd_model_record.specs.{Desk.{Facts, Desk}, DeskHistory.{DeskCall, AdminFault, Look}}
 
@@ -38,45 +38,16 @@ totals_of all facts =
     ∷ (codes "admin_faults", facts.admin_faults)
     ∷ []
 
--- those of totals that are known before the end: all, but where backends have outlets their faults, which their workers tell at the
--- end
+-- the totals that are known before the end: all but the faults of backends with outlets, which their workers tell at the end
 abbrev pub known_before_end : (outlets : Bool) → List Total → List Total
 known_before_end outlets totals = if outlets then filter (λ t. not (bytes_eq t.0 (codes "graphite_faults") || bytes_eq t.0 (codes "console_faults"))) totals else totals
 
--- The thirteen numbers: the four totals, the four sums of the tallies taken, the rounds, and the four counts of faults.
-pub data Count : Type 0 where
-  TotalPackets TotalLines TotalBad TotalDropped TakenPackets TakenLines TakenBad TakenDropped RoundsMade GraphiteFaults ConsoleFaults RepeaterFaults AdminFaults : Count
-
--- so much of each number
-abbrev pub Amounts : Type 0
-Amounts = Count → ℕ
-
--- the numbers of a desk, in order
+-- the numbers of a desk, in order: the four totals, the four sums of the tallies taken, the flushes, and the four counts of faults
 abbrev pub numbers_in : Desk → List ℕ
 numbers_in d =
     d.facts.totals.packets ∷ d.facts.totals.lines ∷ d.facts.totals.bad ∷ d.facts.totals.dropped
     ∷ d.taken_so_far.packets ∷ d.taken_so_far.lines ∷ d.taken_so_far.bad ∷ d.taken_so_far.dropped
     ∷ d.facts.rounds ∷ d.facts.graphite_faults ∷ d.facts.console_faults ∷ d.facts.repeater_faults ∷ d.facts.admin_faults ∷ []
-
--- the place of a number in that order
-abbrev pub place : Count → ℕ
-place TotalPackets = 0
-place TotalLines = 1
-place TotalBad = 2
-place TotalDropped = 3
-place TakenPackets = 4
-place TakenLines = 5
-place TakenBad = 6
-place TakenDropped = 7
-place RoundsMade = 8
-place GraphiteFaults = 9
-place ConsoleFaults = 10
-place RepeaterFaults = 11
-place AdminFaults = 12
-
--- a number of a desk
-abbrev pub number_of : Desk → Amounts
-number_of d = λ count. slice_index (numbers_in d) (place count)
 
 -- a call asks for the facts, or counts an admin session that failed
 abbrev pub IsKeeperCall : DeskCall → Type 0

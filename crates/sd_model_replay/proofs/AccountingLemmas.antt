@@ -4,8 +4,7 @@ use Rattle.std.specs.List.{AllByRecursion}
 use Rattle.std.proofs.Math.Nat.{mod-lt}
 use Rattle.sd_model_text.specs.Names.{fnv1a, shard}
 use Rattle.sd_model_shard.specs.Shard.{empty_state}
-use Rattle.sd_model_shard.specs.History.{Legal}
-use Rattle.sd_model_shard.specs.Whereabouts.{Arrival}
+use Rattle.sd_model_shard.specs.History.{Legal, Arrival}
 use Rattle.sd_model_shard.proofs.HistoryLemmas.{LegalFrom-answered}
 use Rattle.sd_model_replay.specs.Replay.{Bounds, Played, history_at, home_of}
 use Rattle.sd_model_replay.proofs.Short.{events_at}

@@ -5,18 +5,17 @@ use Rattle.std.proofs.lemmas.List.Elements.{filter_map-append, filter-append}
 use Rattle.std.proofs.lemmas.List.Sums.{fold-append}
 use Rattle.sd_model_text.specs.Lines.{Sample, samples_of}
 use Rattle.sd_model_shard.specs.Shard.{State, empty_state, Cause, Limits, Policy, Event, Submit, Delete, Table, admitted, refusal, step}
-use Rattle.sd_model_shard.specs.History.{Act, History, Asked, after, after_all, answered, part_of, state_after}
-use Rattle.sd_model_shard.specs.Whereabouts.{Arrival, arrivals, arrival_in, tables, table_in}
+use Rattle.sd_model_shard.specs.History.{Act, History, Asked, after, after_all, answered, part_of, state_after, Arrival, arrivals, arrival_in, tables, table_in}
 use Rattle.sd_model_shard.proofs.AnsweredLemmas.{answered-append, arrivals-answered}
 use Rattle.sd_model_text.specs.Names.{Kind}
 use Rattle.sd_model_record.specs.Admin as admin
 use Rattle.sd_model_record.specs.Admin.{AdminFault}
 use Rattle.sd_model_serve.specs.Rounds.{Round}
-use Rattle.sd_model_replay.specs.Replay.{Bounds, Outcome, Played, home_of, events_of_record, history_at, samples_of_record, samples_at, Run, first_run, acts_of_record, play, run_of, Moment, moments, round_by, rounds}
+use Rattle.sd_model_replay.specs.Replay.{Bounds, Outcome, Played, home_of, events_of_record, history_at, samples_of_record, Run, first_run, acts_of_record, play, run_of, Moment, moments, round_by, rounds}
 use Rattle.sd_model_replay.specs.Script.{ScriptCommand, Packet, Flush, Admin}
 use Rattle.sd_model_serve.specs.Receiving.{administrator}
 use Rattle.sd_model_record.specs.Replies.{admin_events}
-use Rattle.sd_model_replay.proofs.Short.{events_at, rounds_from}
+use Rattle.sd_model_replay.proofs.Short.{events_at, rounds_from, samples_at}
 
 abbrev arrivals_asked : List Asked → List Arrival
 arrivals_asked asked = filter_map (λ q. arrival_in q.who q.event) asked

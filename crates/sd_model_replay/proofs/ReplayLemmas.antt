@@ -9,10 +9,11 @@ use Rattle.std.proofs.lemmas.List.Sums.{fold_push}
 use Rattle.sd_model_serve.specs.Rounds.{Round, round_text}
 use Rattle.sd_model_outside.specs.Uses.{Delivery}
 use Rattle.sd_model_record.specs.Backends.{Backend, mark_of}
-use Rattle.sd_model_replay.specs.Replay.{Bounds, bounds_of, Played, Run, first_run, play, run_of, Moment, moments, form_of, round_by, rounds, deliveries, sending_by, sendings}
+use Rattle.sd_model_replay.specs.Replay.{Bounds, bounds_of, Played, Run, first_run, play, run_of, Moment, moments, form_of, round_by, rounds, deliveries, sending_by}
 use Rattle.sd_model_replay.specs.Script.{ScriptCommand, spelled, script_text}
 use Rattle.sd_model_replay.specs.AccountingTheorem.{output_in, output_of}
 use Rattle.sd_model_settings.specs.Settings.{Settings}
+use Rattle.sd_model_replay.proofs.Short.{sendings}
 
 -- The state before a record that comes after others, whose first one, or else itself, tells the start.
 abbrev pub run_before : Bounds → List Played → Played → Run

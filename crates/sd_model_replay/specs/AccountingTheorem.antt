@@ -1,10 +1,10 @@
 -- The accounting theorem: where each good sample is, what each record has of its own journal, what was written; how a replay ends.
-use Rattle.std.specs.{Prelude.{ℕ, List, sum_by, false, [], ◌∷◌, flat_map, ◌≡◌, ◌<◌, ◌++◌, map, ◌⊎◌, min, length, ⊤}, List.{range_with_len, AllByRecursion}}
-use Rattle.sd_model_shard.specs.{Shard.{State, Numbers, numbers_of, Event, step}, History.{part_of, state_after}, Whereabouts.{arrivals}}
+use Rattle.std.specs.{Prelude.{ℕ, List, sum_by, false, [], ◌∷◌, flat_map, ◌≡◌, ◌<◌, ◌++◌, map, ◌⊎◌, min, length, ⊤, filter_map}, List.{range_with_len, AllByRecursion}}
+use Rattle.sd_model_shard.specs.{Shard.{State, Numbers, numbers_of, Event, step}, History.{part_of, state_after, arrivals}}
 use Rattle.sd_model_record.specs.{Totals.{Total, totals_of, totals_text}, Replies.{admin_events, replies_by, replies_text, AdminReply}, Backends.{Backend, Graphite, Console}}
-use Rattle.sd_model_replay.specs.{Replay.{bounds_of, Played, first_run, run_of, Bounds, Run, moments, limits_of, policy_of, IsOutcome, home_of, form_of, history_at, samples_at, rounds, deliveries, sendings}, Script.{ScriptCommand, Admin, script_text, IsLegal, BeginsEnd, ScriptFlaw, Next, Faulty, Begins, IsUndecided}}
+use Rattle.sd_model_replay.specs.{Replay.{bounds_of, Played, first_run, run_of, Bounds, Run, moments, limits_of, policy_of, IsOutcome, home_of, form_of, history_at, rounds, deliveries, sending_by, samples_of_record}, Script.{ScriptCommand, Admin, script_text, IsLegal, BeginsEnd, ScriptFlaw, Next, Faulty, Begins, IsUndecided}}
 use Rattle.sd_model_settings.specs.Settings.{Settings}
-use Rattle.sd_model_serve.specs.{Sessions.{Broadcast, replies_at}, Rounds.{AreAccounted}, Receiving.{most_turns}}
+use Rattle.sd_model_serve.specs.{Rounds.{AreAccounted}, Receiving.{most_turns, Broadcast, replies_at}}
 use Rattle.sd_model_outside.specs.{Outside.{Object, Reads, Used, HasFailedBehind, Rose, given, last_count}, Uses.{AfterDeliveries, AreRepeated}}
 use Rattle.sd_model_record.specs.Admin as admin
 
@@ -60,8 +60,7 @@ pub record ReplayTrace : Type 0 where
   pub ahead : List ℕ
 
 -- The accounting theorem, of a trace between two times. `read`, `legal`, `used`, `texts` and `sends` tie the trace to what was
--- seen; `accounted` says what follows for its samples and records, over the histories that the records make, which `submitted` and
--- `state` tie to them.
+-- seen; `accounted` says what follows for samples and records, over histories that `submitted` and `state` tie to them.
 pub record AccountingTheorem (settings : Settings) (trace : ReplayTrace) (old new : Seen) : Type 0 where
   -- where the script tells its bytes, just these were read: the text of the records, and what was read after them
   pub read : Reads old.script.content (script_text (map (λ p. p.command) trace.played) ++ trace.ahead) new.script.content
@@ -71,7 +70,7 @@ pub record AccountingTheorem (settings : Settings) (trace : ReplayTrace) (old ne
   -- journals over the rows kept before
   pub accounted : AreAccounted (limits_of settings) (policy_of settings) (form_of settings) (λ i. history_at (bounds_of settings) i trace.played) (rounds (bounds_of settings) trace.played)
   -- the good samples whose keys belong to a shard were submitted there, in order
-  pub submitted : (i : ℕ) → i < settings.sizes.shards → arrivals (history_at (bounds_of settings) i trace.played) ≡ part_of (λ a. home_of settings.sizes.shards a.sample) i (samples_at trace.played)
+  pub submitted : (i : ℕ) → i < settings.sizes.shards → arrivals (history_at (bounds_of settings) i trace.played) ≡ part_of (λ a. home_of settings.sizes.shards a.sample) i (flat_map (λ p. samples_of_record p.command) trace.played)
   -- the state that the totals count is the one after these histories
   pub state : (i : ℕ) → i < settings.sizes.shards → (run_of (bounds_of settings) (first_run trace.played) trace.played).shards i ≡ state_after (limits_of settings) (policy_of settings) (history_at (bounds_of settings) i trace.played)
   -- each flush used just the backends that the settings name, and each packet had a send to each target of the repeater
@@ -82,7 +81,7 @@ pub record AccountingTheorem (settings : Settings) (trace : ReplayTrace) (old ne
   pub texts : (back : Backend) → AfterDeliveries (deliveries settings back trace.played) (seen_at back old) (seen_at back new)
   -- each packet was sent as it came on the wires of the targets, in order: it is at the end of those whose send didn't fail, and
   -- each other one's count of faults rose; wires without a target are untouched
-  pub sends : AreRepeated (sendings trace.played) old.wires new.wires
+  pub sends : AreRepeated (filter_map (λ p. sending_by p.command p.outcome) trace.played) old.wires new.wires
 
 -- Why a replay ends: at the word that ends the script, with its totals written; since the record at a place has a flaw; since a
 -- read of the script failed, or a write of a reply or of the totals; after as many records as it may execute.

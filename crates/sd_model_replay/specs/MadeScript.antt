@@ -2,17 +2,12 @@
 use Rattle.std.specs.{Prelude.{ℕ, zero, suc, ◌+◌, ◌*◌, ◌/◌, ◌%◌, ◌==◌, ◌||◌, if◌then◌else◌, List, [], ◌∷◌, ◌++◌, flat_map, codes, decimal}, List.{join_with_byte, range_with_len}}
 use Rattle.sd_model_replay.specs.Script.{ScriptCommand, Packet, Flush}
 
--- the number that follows in the sequence, which is that of the ZX81's linear congruential generator
-abbrev pub next_number : ℕ → ℕ
-next_number x = (75 * x + 74) % 65537
-
 -- the numbers of the sequence, counted from 0: the first is 1
 abbrev pub made_number : ℕ → ℕ
 made_number zero = 1
-made_number (suc k) = next_number (made_number k)
+made_number (suc k) = (75 * made_number k + 74) % 65537
 
--- The line of a number x: `drill.`, a letter, a fourth of x, a colon, x, a bar and a type; both whole numbers are taken modulo
--- 1000.
+-- The line of a number x: `drill.`, a letter, a fourth of x, a colon, x, a bar and a type; both numbers are modulo 1000.
 abbrev pub made_line : List ℕ → List ℕ → ℕ → List ℕ
 made_line letter type x = codes "drill." ++ letter ++ decimal (x / 4 % 1000) ++ 58 ∷ decimal (x % 1000) ++ 124 ∷ type
 

@@ -1,8 +1,8 @@
 -- What a replay does: what settings say of shards, backends and repeater; what records ask of each shard, and the state after them.
 use Rattle.std.specs.{Prelude.{ℕ, Bool, if◌then◌else◌, List, [], codes, ◌≡◌, ◌∷◌, length, map, fold, flat_map, filter_map, sum_by, Option, Some, None, Result, Ok}, List.{list_any, range_with_len}, Str.{bytes_eq}}
 use Rattle.sd_model_settings.specs.{Settings.{Settings, plan_of, names_of}, Entries.{Target}}
-use Rattle.sd_model_shard.specs.{Shard.{Limits, Policy, State, empty_state, Submit, Swap, Reply, table_of}, History.{Asked, History, after_all, answered, part_of}, Whereabouts.{Arrival, dropped_in}}
-use Rattle.sd_model_record.specs.{Backends.{Backend, Graphite, Console, mark_of}, Record.{Tally}, Admin.{AdminFault}, Desk.{Desk, new_desk, with_tally, with_repeater_faults, with_health, Marks, marked, taken}, Replies.{admin_events, health_after}}
+use Rattle.sd_model_shard.specs.{Shard.{Limits, Policy, State, empty_state, Submit, Swap, Reply, table_of}, History.{Asked, History, after_all, answered, part_of, Arrival, dropped_in}}
+use Rattle.sd_model_record.specs.{Backends.{Backend, Graphite, Console, mark_of}, Record.{Tally}, Admin.{AdminFault}, Desk.{Desk, new_desk, Marks}, DeskHistory.{desk_step, Add, Take, SetHealth, Mark, RepeaterFaults}, Replies.{admin_events, health_after}}
 use Rattle.sd_model_text.specs.{Names.{shard}, Lines.{Sample, samples_of, pieces, bad_of}}
 use Rattle.sd_model_outside.specs.Uses.{Sending, failures, NotUsed, Delivery, FitsUse}
 use Rattle.sd_model_serve.specs.{Receiving.{flusher, administrator}, Rounds.{RecordForm, Round, round_deliveries}}
@@ -87,10 +87,6 @@ abbrev pub samples_of_record : ScriptCommand → List Arrival
 samples_of_record (Packet who moment datagram) = map (λ s. record { who = who; sample = s }) (samples_of datagram)
 samples_of_record c = []
 
--- those of records
-abbrev pub samples_at : List Played → List Arrival
-samples_at played = flat_map (λ p. samples_of_record p.command) played
-
 -- The state of a replay: that of each shard, by its number, and the desk's.
 pub record Run : Type 0 where
   pub shards : ℕ → State
@@ -123,20 +119,16 @@ states_after bounds states c i = after_all bounds.limits bounds.policy (states i
 abbrev pub replies_to : Bounds → (ℕ → State) → ScriptCommand → List Reply
 replies_to bounds states c = flat_map (λ i. map (λ a. a.reply) (acts_of_record bounds states i c)) (range_with_len 0 bounds.shards)
 
--- what a datagram adds to the tally
-abbrev pub packet_tally : List ℕ → ℕ → Tally
-packet_tally datagram dropped = record { packets = 1; lines = length (pieces datagram); bad = bad_of datagram; dropped = dropped }
-
 -- the desk after an admin line
 abbrev pub desk_after_line : Desk → Result admin.Command AdminFault → Desk
-desk_after_line desk (Ok (admin.Health word)) = with_health desk (health_after word desk.facts.up)
+desk_after_line desk (Ok (admin.Health word)) = desk_step desk (SetHealth (health_after word desk.facts.up))
 desk_after_line desk answer = desk
 
 -- the desk after a record, with what the shards answered and what the outside did
 abbrev pub desk_after_record : Desk → ScriptCommand → List Reply → Outcome → Desk
 desk_after_record desk (Packet who moment datagram) replies outcome =
-    with_repeater_faults (with_tally desk (packet_tally datagram (sum_by dropped_in replies)) moment) (failures outcome.failed)
-desk_after_record desk (Flush ts) replies outcome = marked (taken desk) outcome.marks
+    desk_step (desk_step desk (Add (record { packets = 1; lines = length (pieces datagram); bad = bad_of datagram; dropped = sum_by dropped_in replies }) moment)) (RepeaterFaults (failures outcome.failed))
+desk_after_record desk (Flush ts) replies outcome = desk_step (desk_step desk Take) (Mark outcome.marks)
 desk_after_record desk (Admin moment line) replies outcome = desk_after_line desk (admin.command line)
 
 -- the state of a replay after a record
@@ -183,7 +175,3 @@ deliveries settings back played = round_deliveries (form_of settings) back (roun
 abbrev pub sending_by : ScriptCommand → Outcome → Option Sending
 sending_by (Packet who moment datagram) outcome = Some (record { packet = datagram; failed = outcome.failed })
 sending_by c outcome = None
-
--- the packets that records repeat
-abbrev pub sendings : List Played → List Sending
-sendings played = filter_map (λ p. sending_by p.command p.outcome) played

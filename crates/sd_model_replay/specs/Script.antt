@@ -4,8 +4,7 @@ use Rattle.sd_model_text.specs.{Lists.{Lacks}, Lines.{longest_datagram}}
 use Rattle.sd_model_outside.specs.Outside.{Content, IsAtEnd}
 use Rattle.sd_model_record.specs.Admin.{longest_line}
 
--- A datagram of so many bytes that a receiver got at a moment; a flush at a Unix second; an admin command of so many bytes at a
--- moment; or the end of the script.
+-- A datagram of so many bytes that a receiver got at a moment; a flush; an admin command of so many bytes; the end of the script.
 pub data Head : Type 0 where
   PacketHead : (who moment len : ℕ) → Head
   FlushHead : (ts : ℕ) → Head
@@ -53,8 +52,7 @@ pub data ScriptCommand : Type 0 where
   Flush : (ts : ℕ) → ScriptCommand
   Admin : (moment : ℕ) (line : List ℕ) → ScriptCommand
 
--- The text of a record: `P W T N` or `A T N`, a newline, the N bytes of the datagram or the line, a newline; or `F T` and a
--- newline.
+-- The text of a record: `P W T N` or `A T N`, a newline, N bytes of the datagram or the line, a newline; or `F T` and a newline.
 abbrev pub spelled : ScriptCommand → List ℕ
 spelled (Packet who moment datagram) = head_line (PacketHead who moment (length datagram)) ++ 10 ∷ datagram ++ 10 ∷ []
 spelled (Flush ts) = head_line (FlushHead ts) ++ 10 ∷ []
@@ -78,14 +76,9 @@ IsLegal receivers (Admin moment line) = IsMoment moment × (length line ≤ long
 abbrev pub BeginsEnd : List ℕ → Type 0
 BeginsEnd bytes = (rest : List ℕ) × (bytes ≡ end_word ++ rest)
 
--- What is wrong with a record: its first line is of no form; its number of bytes is too great, or not that of its bytes; or the
--- script ends within it.
+-- What is wrong with a record: its first line is of no form; its number of bytes is too great or wrong; the script ends within it.
 pub data ScriptFlaw : Type 0 where
   BadWord BadLength CutShort : ScriptFlaw
-
--- fewer than 40 bytes without a newline
-abbrev pub IsPartOfLine : List ℕ → Type 0
-IsPartOfLine bytes = Lacks 10 bytes × (length bytes < 40)
 
 -- the first line is none of the forms
 pub record HasNoForm (receivers : ℕ) (bytes : List ℕ) : Type 0 where
@@ -105,17 +98,13 @@ pub record HasBody (receivers : ℕ) (IsSo : Body → List ℕ → Type 0) (byte
   pub announced : body_of head ≡ Some body
   pub so : IsSo body rest
 
--- it isn't, and fewer bytes than these and one more are there
-abbrev pub IsPart : Body → List ℕ → Type 0
-IsPart body rest = (body.len ≤ body.most) × (length rest ≤ body.len)
-
 -- as many bytes are there as may, and one more, and they don't fit
 abbrev pub IsWrong : Body → List ℕ → Type 0
 IsWrong body rest = (body.len ≤ body.most) × (body.len < length rest) × ((slice_index rest body.len ≢ 10) ⊎ (IsTrue body.is_line × ¬ Lacks 10 (take body.len rest)))
 
 -- bytes that don't decide yet what is next, so that more have to be read: a part of a line, or of a body
 abbrev pub IsUndecided : ℕ → List ℕ → Type 0
-IsUndecided receivers bytes = IsPartOfLine bytes ⊎ HasBody receivers IsPart bytes
+IsUndecided receivers bytes = (Lacks 10 bytes × (length bytes < 40)) ⊎ HasBody receivers (λ body rest. (body.len ≤ body.most) × (length rest ≤ body.len)) bytes
 
 -- The flaw of a record, by the bytes that were read from its place on and what the source has left after them. It is the first of
 -- these, each of which leaves out those before it: the source ends within the first line; there is no line, or one of no form; its

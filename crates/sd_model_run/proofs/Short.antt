@@ -1,9 +1,9 @@
 -- Short names that proofs have for parts of definitions.
 use Rattle.std.specs.Prelude.{[], ℕ, List, Bool, nat_lt, length, ◌<◌, ◌≤◌, ◌⊎◌, ◌^◌}
-use Rattle.sd_model_run.specs.Outlets.{OutletTrace, OutletRoom}
-use Rattle.sd_model_serve.specs.Receiving.{ReceiverTrace, HaveRun}
 use Rattle.sd_model_run.specs.Run.{IsReceiverTrace}
+use Rattle.sd_model_serve.specs.Receiving.{ReceiverTrace, HaveRun}
 use Rattle.sd_model_outside.specs.Outside.{Object}
+use Rattle.sd_model_serve.specs.Rounds.{OutletRoom, OutletTrace}
 
 -- how many texts an outlet takes at most
 abbrev pub most_texts : ℕ

@@ -1,2 +1,1 @@
-pub mod Outlets
 pub mod Run

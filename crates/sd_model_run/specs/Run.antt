@@ -1,13 +1,11 @@
--- A run of the server between two times: what it goes by, its trace from the side of its callers, what it counts, and what is seen
--- of the objects that its workers use.
-use Rattle.std.specs.{Prelude.{◌≡◌, ℕ, ◌+◌, Option, None, Some, slice_get, ◌<◌, ◌≤◌, min, max, Bool, true, false, List, [], ◌∷◌, length, map, ◌++◌, flat_map, sum_by, nat_lt}, List.{AllByRecursion}}
-use Rattle.sd_model_outside.specs.{Outside.{Object, last_count}, Uses.{AfterDeliveries, fault_of, with_ticks}}
-use Rattle.sd_model_record.specs.{Backends.{Backend, Graphite, Console, mark_of}, DeskHistory.{DeskHistory, TellsFrom, calls_by, desk_after, AnswersFrom}, Totals.{Among, IsKeeperCall, Count, number_of, TotalPackets, TotalLines, TotalBad, TotalDropped, TakenPackets, TakenLines, TakenBad, TakenDropped, RoundsMade, GraphiteFaults, ConsoleFaults, RepeaterFaults, AdminFaults, Amounts}, Desk.{IsBalanced, Desk, new_desk}}
-use Rattle.sd_model_serve.specs.{Rounds.{AreAccounted, MarksFit, Round, last_second, round_calls, round_text, RecordForm, round_deliveries, Ran}, Doors.{ServesDoor, Visit, faults_among, AreVisitsOf, asked_by, called_in}, Receiving.{LoopEnd, LimitReached, EndsReceiver, EndsFlusher, EndsKeeper, most_turns, CountsDatagrams, HaveRun, PassesOn, failed_sends, summed_in, ReceiverTrace}, Sessions.{Dialogue, Exchange}}
-use Rattle.sd_model_stream.specs.Streams.{AreStreamsOf, CountsReads, any_reached_limit, lines_in, bad_of_line, pieces_of_line, LineTrace, samples_of_line}
-use Rattle.sd_model_run.specs.Outlets.{IsOutletTrace, has_outlet, uses_at_ticks, OutletTrace, OutletRoom}
+-- A run of the server: what it goes by, what its callers did, what it counts, and what is seen of the objects that they use.
+use Rattle.std.specs.{Prelude.{◌≡◌, ℕ, ◌+◌, ◌<◌, ◌≤◌, Bool, true, false, List, [], ◌∷◌, length, map, Some, slice_get, min, max, ◌++◌, flat_map, sum_by, nat_lt, not, ◌&&◌}, List.{AllByRecursion, AllZip}, Option.{option_map_or}}
+use Rattle.sd_model_outside.specs.{Uses.{AfterDeliveries, fault_of, with_ticks, failures}, Outside.{Object, last_count}}
+use Rattle.sd_model_record.specs.{Backends.{Backend, Graphite, Console, mark_of}, DeskHistory.{DeskHistory, calls_by, desk_after, AnswersFrom}, Totals.{Among, IsKeeperCall, numbers_in}, Desk.{IsBalanced, Desk, new_desk}}
+use Rattle.sd_model_serve.specs.{Rounds.{AreAccounted, MarksFit, Round, last_second, round_calls, round_text, RecordForm, round_deliveries, Ran, OutletRoom, OutletTrace, IsOutletTrace}, Sessions.{ServesDoor, Visit, faults_among, IsVisitOf, asked_by, called_in, Dialogue, Exchange}, Receiving.{LoopEnd, LimitReached, EndsReceiver, EndsFlusher, EndsKeeper, most_turns, CountsDatagrams, HaveRun, PassesOn, summed_in, ReceiverTrace}}
+use Rattle.sd_model_stream.specs.Streams.{CountsReads, any_reached_limit, lines_in, bad_of_line, pieces_of_line, LineTrace, samples_of_line, IsStreamOf}
 use Rattle.sd_model_text.specs.Lines.{Sample, pieces, bad_of, samples_of}
-use Rattle.sd_model_shard.specs.{Shard.{Limits, Policy, last_number}, History.{History}, Whereabouts.{dropped_in}}
+use Rattle.sd_model_shard.specs.{Shard.{Limits, Policy, last_number}, History.{History, dropped_in}}
 use Rattle.sd_model_settings.specs.Settings as file
 
 -- What a server goes by: the limits and the policy of each shard; how many shards there are, and how records are made and written;
@@ -51,28 +49,25 @@ brought_in c = map (λ r. flat_map samples_of r.read) c.receiver_traces ++ map (
 abbrev pub rounds_in : ServerTrace → List Round
 rounds_in c = c.ticked ++ c.last ∷ []
 
--- the later one of a moment and a second before it, if there was one
-abbrev pub later : Option ℕ → ℕ → ℕ
-later None now = now
-later (Some second) now = max second now
-
 -- What a run over so many shards counts: the datagrams that were read; their pieces and those of the lines of streams; those that
 -- are bad; and the samples that were dropped; the same of the tallies that its rounds took; the rounds; those that failed at each
 -- backend; the sends that failed; and the failures of both doors with those of their sessions.
-abbrev pub counts_of : ℕ → ServerTrace → Amounts
-counts_of shards c TotalPackets = length (flat_map (λ r. r.read) c.receiver_traces)
-counts_of shards c TotalLines = sum_by (λ d. length (pieces d)) (flat_map (λ r. r.read) c.receiver_traces) + sum_by pieces_of_line (flat_map (λ l. lines_in l.streams) c.line_traces)
-counts_of shards c TotalBad = sum_by bad_of (flat_map (λ r. r.read) c.receiver_traces) + sum_by bad_of_line (flat_map (λ l. lines_in l.streams) c.line_traces)
-counts_of shards c TotalDropped = summed_in dropped_in shards c.histories
-counts_of shards c TakenPackets = sum_by (λ r. r.tally.packets) (rounds_in c)
-counts_of shards c TakenLines = sum_by (λ r. r.tally.lines) (rounds_in c)
-counts_of shards c TakenBad = sum_by (λ r. r.tally.bad) (rounds_in c)
-counts_of shards c TakenDropped = sum_by (λ r. r.tally.dropped) (rounds_in c)
-counts_of shards c RoundsMade = length (rounds_in c)
-counts_of shards c GraphiteFaults = sum_by (λ r. fault_of (mark_of Graphite r.marks)) (rounds_in c)
-counts_of shards c ConsoleFaults = sum_by (λ r. fault_of (mark_of Console r.marks)) (rounds_in c)
-counts_of shards c RepeaterFaults = sum_by (λ r. failed_sends r.sendings) c.receiver_traces
-counts_of shards c AdminFaults = c.failures + faults_among c.visits + sum_by (λ l. l.failures + faults_among l.visits) c.line_traces
+abbrev pub counts_in : ℕ → ServerTrace → List ℕ
+counts_in shards c =
+    length (flat_map (λ r. r.read) c.receiver_traces)
+    ∷ (sum_by (λ d. length (pieces d)) (flat_map (λ r. r.read) c.receiver_traces) + sum_by pieces_of_line (flat_map (λ l. lines_in l.streams) c.line_traces))
+    ∷ (sum_by bad_of (flat_map (λ r. r.read) c.receiver_traces) + sum_by bad_of_line (flat_map (λ l. lines_in l.streams) c.line_traces))
+    ∷ summed_in dropped_in shards c.histories
+    ∷ sum_by (λ r. r.tally.packets) (rounds_in c)
+    ∷ sum_by (λ r. r.tally.lines) (rounds_in c)
+    ∷ sum_by (λ r. r.tally.bad) (rounds_in c)
+    ∷ sum_by (λ r. r.tally.dropped) (rounds_in c)
+    ∷ length (rounds_in c)
+    ∷ sum_by (λ r. fault_of (mark_of Graphite r.marks)) (rounds_in c)
+    ∷ sum_by (λ r. fault_of (mark_of Console r.marks)) (rounds_in c)
+    ∷ sum_by (λ r. sum_by (λ s. failures s.failed) r.sendings) c.receiver_traces
+    ∷ (c.failures + faults_among c.visits + sum_by (λ l. l.failures + faults_among l.visits) c.line_traces)
+    ∷ []
 
 -- What is seen of the objects that the workers use: sources, wires, beat, backends, the admin door and the door of streams.
 pub record Objects : Type 0 where
@@ -114,7 +109,7 @@ pub record IsKept (asked made : ℕ) (ended : LoopEnd) (door door_now : Object) 
 -- and it had seen some flushes, no more than were made; where a stream took the most reads, it ended by that.
 pub record IsLineTrace (asked made : ℕ) (l : LineTrace) (door door_now : Object) : Type 0 where
   pub served : ServesDoor l.visits l.failures door door_now
-  pub went : AreStreamsOf l.visits l.streams
+  pub went : AllZip IsStreamOf l.visits l.streams
   pub turned : ℕ
   pub turns : door_now.turns ≡ door.turns + turned
   pub seen : ℕ
@@ -155,32 +150,30 @@ pub record IsRun (run_settings : RunSettings) (says : ℕ → Type 0) (c : Serve
   pub received : HaveRun (IsReceiverTrace run_settings.run_flushes c.desk.facts.rounds) run_settings.wires c.receiver_traces old.sources new.sources old.wires new.wires
   -- there was a round at each tick, and a last one at a moment of the clock, or at the second of the round before if that is later
   pub flushed : IsFlushed run_settings.run_flushes c.flusher_ended c.ticked old.beat new.beat
-  pub last : (now : ℕ) × says now × (c.last.ts ≡ later (last_second c.ticked) now)
+  pub last : (now : ℕ) × says now × (c.last.ts ≡ option_map_or (λ second. max second now) (last_second c.ticked) now)
   -- the last round wrote to just the backends that are used, and those at the ticks too, but where there are outlets to none; there
   -- the texts of their records went through the outlets
-  pub used : AllByRecursion (MarksFit (uses_at_ticks (nat_lt 0 run_settings.outlets.buffers) run_settings.uses)) c.ticked
+  pub used : AllByRecursion (MarksFit (λ back. not (nat_lt 0 run_settings.outlets.buffers) && run_settings.uses back)) c.ticked
   pub used_last : MarksFit run_settings.uses c.last
-  pub through_outlets : (back : Backend) → IsOutletTrace (has_outlet (nat_lt 0 run_settings.outlets.buffers) run_settings.uses back) run_settings.outlets (map (round_text run_settings.form back) c.ticked) (c.outlet_traces back)
+  pub through_outlets : (back : Backend) → IsOutletTrace (nat_lt 0 run_settings.outlets.buffers && run_settings.uses back) run_settings.outlets (map (round_text run_settings.form back) c.ticked) (c.outlet_traces back)
   -- of what a backend was given it has just what was written, in order, each text whole, but where it failed
   pub delivered : (back : Backend) → AfterDeliveries ((c.outlet_traces back).queued ++ round_deliveries run_settings.form back (rounds_in c)) (old.backs back) (new.backs back)
   -- the sessions of the door were visited one after another, and each went as its lines ask
   pub visited : ServesDoor c.visits c.failures old.door new.door
-  pub went : AreVisitsOf run_settings.form.shards run_settings.settings says c.visits c.dialogues
+  pub went : AllZip (IsVisitOf run_settings.form.shards run_settings.settings says) c.visits c.dialogues
   pub kept : IsKept run_settings.run_flushes c.desk.facts.rounds c.keeper_ended old.door new.door
   -- the streams of the other door were read one after another, where they are
   pub lines_read : AreLineTraces run_settings.run_flushes c.desk.facts.rounds run_settings.streams c.line_traces old.streams new.streams
   -- the desk began at a moment of the clock; each number of it is what the run counts, up to the last count; and what was counted
   -- of datagrams is what rounds took of it and what the desk still has
   pub started : says c.desk.facts.start
-  pub counted : (count : Count) → number_of c.desk count ≡ min (counts_of run_settings.form.shards c count) last_number
+  pub counted : numbers_in c.desk ≡ map (λ n. min n last_number) (counts_in run_settings.form.shards c)
   pub balanced : IsBalanced c.desk
   -- the desk has one legal history, in which are the calls of each caller, in its order
   pub called : HasOneDesk says c
 
--- The accounting theorem of a run: besides, all facts that were told have the start, the health that was set last before, and the
--- moment of the last message before; each good sample of the datagrams that were read is in exactly one place, and each round's
--- record has the documented statistics of its own journals over the rows kept before.
+-- The accounting theorem of a run: besides, each good sample of the datagrams that were read is in exactly one place, and each
+-- round's record has the documented statistics of its own journals over the rows kept before.
 pub record ServerTheorem (run_settings : RunSettings) (says : ℕ → Type 0) (c : ServerTrace) (old new : Objects) : Type 0 where
   pub run : IsRun run_settings says c old new
-  pub reported : TellsFrom c.desk.facts.start true c.desk.facts.start c.calls
   pub accounted : AreAccounted run_settings.limits run_settings.policy run_settings.form c.histories (rounds_in c)

@@ -1,8 +1,7 @@
 ghost use Rattle.std.specs.Prelude.{◌≡◌, ℕ, ◌+◌, ◌<◌, ◌≤◌, List, ◌∷◌, length, map};
 ghost use Rattle.sd_model_record.specs.Backends.{Backend};
-ghost use Rattle.sd_model_serve.specs.Rounds.{RecordForm, round_text};
+ghost use Rattle.sd_model_serve.specs.Rounds.{RecordForm, round_text, OutletRoom, OutletTrace, WentThrough};
 ghost use Rattle.sd_model_run.specs.Run.{ServerTrace, rounds_in};
-ghost use Rattle.sd_model_run.specs.Outlets.{OutletRoom, OutletTrace, WentThrough};
 
 /// Where the texts of a run's ticks went through a backend's outlet, its rounds are one more than the texts that were queued and
 /// skipped there: the last round writes to the backend itself. And the first text is queued, where it fits a buffer.

@@ -1,15 +1,18 @@
 -- Short names that proofs have for parts of definitions.
-use Rattle.std.specs.Prelude.{◌≡◌, true, ◌<◌, ◌+◌, [], List, ℕ, flat_map, map}
+use Rattle.std.specs.Prelude.{◌≡◌, true, ◌<◌, ◌+◌, [], List, ℕ, flat_map, map, ◌++◌, ◌∷◌, sum_by}
 use Rattle.std.specs.FinMap.{empty}
-use Rattle.sd_model_serve.specs.Doors.{Visit}
-use Rattle.sd_model_shard.specs.Whereabouts.{Flushed}
+use Rattle.sd_model_serve.specs.Sessions.{Visit, Exchange}
+use Rattle.sd_model_shard.specs.History.{Flushed, History, Act}
 use Rattle.sd_model_shard.specs.Shard.{Event, Swap, Swapped, Table}
-use Rattle.sd_model_shard.specs.History.{History, Act}
-use Rattle.sd_model_serve.specs.Receiving.{acts_by, events_of, ReceiverTrace, flusher}
+use Rattle.sd_model_serve.specs.Receiving.{acts_by, events_of, ReceiverTrace, flusher, Broadcast}
 use Rattle.sd_model_text.specs.Lines.{Sample, samples_of}
 use Rattle.sd_model_shard.specs.Shard as shard
-use Rattle.sd_model_serve.specs.Sessions.{Broadcast, Exchange}
 use Rattle.std.specs.List.{range_with_len}
+use Rattle.sd_model_outside.specs.Uses.{Sending, failures}
+
+-- how many sends of packets failed
+abbrev pub failed_sends : List Sending → ℕ
+failed_sends sendings = sum_by (λ s. failures s.failed) sendings
 
 -- what lines asked of all shards
 abbrev pub asked_in : List Exchange → List Broadcast

@@ -1,4 +1,3 @@
 pub mod Receiving
 pub mod Rounds
 pub mod Sessions
-pub mod Doors

@@ -1,8 +1,8 @@
 -- How the loops of a server's workers end; who did what at shards; what callers file there, and a receiver does with its datagrams.
-use Rattle.std.specs.{Prelude.{◌≡◌, ℕ, ◌<◌, ◌≤◌, ◌^◌, ⊤, min, List, [], ◌∷◌, length, map, take, drop, flat_map, sum_by, All}, List.{AllByRecursion, AllZip, range_with_len}}
+use Rattle.std.specs.{Prelude.{◌≡◌, ℕ, ◌<◌, ◌≤◌, ◌^◌, ⊤, min, List, [], ◌∷◌, length, map, take, drop, flat_map, sum_by, All, get_or}, List.{AllByRecursion, AllZip, range_with_len}}
 use Rattle.sd_model_outside.specs.{Outside.{Object, Rose}, Uses.{IsSpent, with_datagrams, Sending, AreRepeated, failures}}
 use Rattle.sd_model_text.specs.{Lines.{Sample, pieces, bad_of}, Names.{shard}}
-use Rattle.sd_model_shard.specs.{History.{History, part_of}, Whereabouts.{summed_by}, Shard.{Event, Submit, Reply, last_number}}
+use Rattle.sd_model_shard.specs.{History.{History, part_of, summed_by}, Shard.{Event, Submit, Reply, last_number}}
 use Rattle.sd_model_record.specs.{Record.{Tally}, DeskHistory.{DeskCall, DeskEvent, Add, RepeaterFaults, Look}}
 
 -- What ended a loop: nothing was left; a failure; so many flushes, which are enough; so many turns, which are the most.
@@ -36,8 +36,7 @@ EndsFlusher asked (Enough flushes) beat beat_now made = (0 < asked) × (flushes 
 EndsFlusher asked (LimitReached turns) beat beat_now made =
     (turns ≡ most_turns) × (made ≡ turns) × (beat_now.faults ≡ beat.faults) × (0 < asked → made ≤ asked)
 
--- Why the keeper of a door ended, of which so many flushes were asked, once it had seen so many, and the door had taken so many
--- turns. A door's failures don't end it.
+-- Why the keeper of a door ended, once it had seen so many flushes, and the door had taken so many turns. No failure ends it.
 abbrev pub EndsKeeper : (asked : ℕ) → LoopEnd → (door_now : Object) → (seen turned : ℕ) → Type 0
 EndsKeeper asked Spent door_now seen turned = IsSpent door_now.content × IsShort asked seen × (turned < most_turns)
 EndsKeeper asked Failed door_now seen turned = ⊥
@@ -68,14 +67,27 @@ asks shards i samples = map Submit (part_of (λ s. shard s.key shards) i samples
 abbrev pub summed_in : (Reply → ℕ) → ℕ → (ℕ → History) → ℕ
 summed_in weigh shards acts = sum_by (λ i. summed_by weigh (acts i)) (range_with_len 0 shards)
 
+-- An event that each shard was asked for, and what each replied, by the shard's number.
+pub record Broadcast : Type 0 where
+  pub event : Event
+  pub replies : ℕ → Reply
+
+-- what was asked for
+abbrev pub events_in : List Broadcast → List Event
+events_in asked = map (λ b. b.event) asked
+
+-- what the administrator did at shard i
+abbrev pub acts_in : List Broadcast → ℕ → History
+acts_in asked i = map (λ b. record { who = administrator; event = b.event; reply = b.replies i }) asked
+
+-- what all shards replied to the n-th event, from 0
+abbrev pub replies_at : ℕ → List Broadcast → ℕ → List Reply
+replies_at shards asked n = get_or (map (λ b. map b.replies (range_with_len 0 shards)) asked) n []
+
 -- what so many packets and pieces count for, with bad pieces and dropped samples; each number stops at the last count
 abbrev pub tally_of : (packets lines bad drops : ℕ) → Tally
 tally_of packets lines bad drops =
     record { packets = min packets last_number; lines = min lines last_number; bad = min bad last_number; dropped = min drops last_number }
-
--- how many sends of packets failed
-abbrev pub failed_sends : List Sending → ℕ
-failed_sends sendings = sum_by (λ s. failures s.failed) sendings
 
 -- The datagrams that a source has given since were sent on each of the wires, as they came.
 pub record PassesOn (read : List (List ℕ)) (sendings : List Sending) (source source_now : Object) (wires wires_now : List Object) : Type 0 where

@@ -1,11 +1,11 @@
--- The rounds of a flusher: what each took out of the shards and the desk, and what it wrote; the account of histories and rounds;
--- and the history of each shard that a run leaves, from the side of its callers.
-use Rattle.std.specs.{Prelude.{◌≡◌, ℕ, Bool, Option, Some, None, List, [], ◌∷◌, map, get_or, ◌<◌, ◌≢◌, ◌≤◌, length}, FinMap.{empty}, List.{range_with_len}}
+-- The rounds of a flusher: what each took out of the shards and the desk, and what it wrote; the account of histories and rounds; the
+-- history of each shard that a run leaves, from the side of its callers; and what goes to a backend through an outlet.
+use Rattle.std.specs.{Prelude.{◌≡◌, ◌⊎◌, ℕ, ◌+◌, ◌^◌, Bool, true, false, Option, Some, None, List, [], ◌∷◌, map, get_or, ◌<◌, ◌≢◌, ◌≤◌, length, ⊤}, FinMap.{empty}, List.{range_with_len, AllByRecursion}}
 use Rattle.sd_model_outside.specs.Uses.{Delivery, FitsUse}
 use Rattle.sd_model_settings.specs.Settings.{Plan, Names}
-use Rattle.sd_model_shard.specs.{Shard.{Table, Swap, Swapped, Limits, Policy}, History.{History, Legal, state_after}, Whereabouts.{AreDocumented, Flushed, flushes, RowsAreKept, tables, Places}}
+use Rattle.sd_model_shard.specs.{Shard.{Table, Swap, Swapped, Limits, Policy}, History.{History, Legal, state_after, AreDocumented, Flushed, flushes, RowsAreKept, tables, Places}}
 use Rattle.sd_model_record.specs.{Record.{Tally, Record, record_of, documented_rows}, Desk.{Marks}, DeskHistory.{DeskCall, Take, Mark, Took, Done}, Backends.{Backend, mark_of, text_of}}
-use Rattle.sd_model_serve.specs.{Receiving.{flusher, administrator, acts_by, asks, events_of}, Sessions.{Broadcast, acts_in}}
+use Rattle.sd_model_serve.specs.Receiving.{flusher, administrator, acts_by, asks, events_of, Broadcast, acts_in}
 use Rattle.sd_model_text.specs.Lines.{Sample}
 
 -- A round: its Unix second, the tally that it took, each shard's table, by the shard's number, and how the backends took part.
@@ -83,3 +83,43 @@ pub record Ran (limits : Limits) (policy : Policy) (shards : ℕ) (brought : Lis
   pub commanded : acts_by administrator acts ≡ acts_in asked i
   pub others : (who : ℕ) → length brought ≤ who → who ≢ flusher → who ≢ administrator → acts_by who acts ≡ []
   pub handed_out : tables acts ≡ map (λ round. round.tables i) rounds
+
+-- The room of an outlet: how many buffers it has, none where there is no outlet, and how many bytes each of them can hold.
+pub record OutletRoom : Type 0 where
+  pub buffers : ℕ
+  pub bytes : ℕ
+
+-- Of texts after so many that were queued, each that is chosen fits a buffer, and each other one is longer than a buffer, or as many
+-- were queued before it as there are buffers, or 2^61.
+abbrev pub AreChosen : OutletRoom → (before : ℕ) → List Bool → List (List ℕ) → Type 0
+AreChosen room before [] [] = ⊤
+AreChosen room before [] (text ∷ texts) = ⊥
+AreChosen room before (c ∷ choice) [] = ⊥
+AreChosen room before (true ∷ choice) (text ∷ texts) = (length text ≤ room.bytes) × AreChosen room (before + 1) choice texts
+AreChosen room before (false ∷ choice) (text ∷ texts) = ((room.bytes < length text) ⊎ (room.buffers ≤ before) ⊎ (2 ^ 61 ≤ before)) × AreChosen room before choice texts
+
+-- of a list, what is chosen, place by place
+abbrev pub chosen : {X : Type 0} → List Bool → List X → List X
+chosen [] xs = []
+chosen (c ∷ choice) [] = []
+chosen (true ∷ choice) (x ∷ xs) = x ∷ chosen choice xs
+chosen (false ∷ choice) (x ∷ xs) = chosen choice xs
+
+-- What became of a backend's texts at its outlet: those that were queued, each as it was written, in order; how many were skipped.
+pub record OutletTrace : Type 0 where
+  pub queued : List Delivery
+  pub skipped : ℕ
+
+-- Texts were offered at an outlet of such room, in order. Each that was queued was a round of the backend, in order, written whole
+-- or missed; all others were skipped, each for a reason.
+pub record WentThrough (room : OutletRoom) (texts : List (List ℕ)) (o : OutletTrace) : Type 0 where
+  pub choice : List Bool
+  pub chosen_so : AreChosen room 0 choice texts
+  pub queued : map (λ d. d.text) o.queued ≡ chosen choice texts
+  pub used : AllByRecursion (λ d. FitsUse true d.mark) o.queued
+  pub others : length o.queued + o.skipped ≡ length texts
+
+-- by whether texts go through an outlet; where they don't, none does
+abbrev pub IsOutletTrace : Bool → OutletRoom → List (List ℕ) → OutletTrace → Type 0
+IsOutletTrace true room texts o = WentThrough room texts o
+IsOutletTrace false room texts o = o ≡ record { queued = []; skipped = 0 }

@@ -1,12 +1,10 @@
--- Sessions by lines, whatever a line asks for: the lines that were read, what was replied to them, and how a session ended; and
--- those of a server's admin port: what their lines asked of all shards and got replied.
-use Rattle.std.specs.{Prelude.{◌≡◌, ◌≢◌, ℕ, ◌+◌, ◌<◌, List, [], ◌∷◌, ◌++◌, length, flat_map, nat_lt, Bool, true, false, map, take, get_or, slice_get, Some, Result, Ok}, List.{All, AllByRecursion, range_with_len}}
-use Rattle.sd_model_outside.specs.Outside.{Object, HasFailedBehind, Rose, Reads, IsAtEnd, given}
-use Rattle.sd_model_record.specs.{Admin.{TooLong, longest_line, AdminFault, command}, Replies.{fault_line, AdminReply, reply_text, admin_events, replies_by, replies_text}, Desk.{Facts}}
-use Rattle.sd_model_shard.specs.{Shard.{Event}, History.{History}}
-use Rattle.sd_model_serve.specs.Receiving.{administrator}
+-- Sessions by lines, whatever a line asks for; those of a server's admin port; and doors, which serve sessions one after another.
+use Rattle.std.specs.{Prelude.{◌≡◌, ◌≢◌, ℕ, ◌+◌, ◌<◌, List, [], ◌∷◌, ◌++◌, length, flat_map, nat_lt, Bool, true, false, map, take, slice_get, Some, Result, Ok, ◌≤◌, if◌then◌else◌, sum_by}, List.{All, AllByRecursion, AllZip}}
+use Rattle.sd_model_outside.specs.{Outside.{Object, HasFailedBehind, Rose, Reads, IsAtEnd, given, RoseBy}, Uses.{session_of, with_sessions, with_back}}
+use Rattle.sd_model_record.specs.{Admin.{TooLong, longest_line, AdminFault, command, Command, Health, Up, Down}, Replies.{fault_line, AdminReply, reply_text, admin_events, replies_by, replies_text}, Desk.{Facts}, DeskHistory.{DeskCall, SetHealth, Look, Done, Reported}}
+use Rattle.sd_model_shard.specs.Shard.{Event}
+use Rattle.sd_model_serve.specs.Receiving.{Broadcast, events_in, replies_at}
 use Rattle.sd_model_settings.specs.Settings as file
-use Rattle.sd_model_shard.specs.Shard as shard
 use Rattle.sd_model_record.specs.Admin as admin
 
 -- What a session is about, where this is what is known of a line that was executed: the line itself; what is replied to it; that it
@@ -22,8 +20,7 @@ pub record Talk (E : Type 0) : Type 1 where
 pub data SessionEnd : Type 0 where
   Quit AtEnd ReadFault WriteFault LineTooLong : SessionEnd
 
--- A session as it went: the lines that were executed and replied to whole; the last one, at which it ended, if it did at one; the
--- bytes that were read after these; and how it ended.
+-- A session as it went: the lines replied to whole; the one at which it ended, if any; the bytes read after these; its end.
 pub record Dialogue (E : Type 0) : Type 0 where
   pub exchanges : List E
   pub last : List E
@@ -70,8 +67,7 @@ module _ {E : Type 0} where
     WasCut (e ∷ []) rest sink sink_now = t.is_cut e sink sink_now
     WasCut (e ∷ next ∷ more) rest sink sink_now = ⊥
 
-    -- A session ended so, at its last line or after all lines, with these bytes read after them, and a source of so many faults
-    -- before.
+    -- A session ended so, at its last line or after all lines, with these bytes read after them; its source had so many faults.
     abbrev pub EndsSession : SessionEnd → (last : List E) → (rest : List ℕ) → (faults : ℕ) → (source_now sink sink_now : Object) → Type 0
     EndsSession Quit last rest faults source_now sink sink_now =
         (e : E) × (last ≡ e ∷ []) × t.quits e × (source_now.faults ≡ faults) × (sink_now ≡ sink)
@@ -92,23 +88,6 @@ module _ {E : Type 0} where
       pub sink_place : sink_now.opened_at ≡ sink.opened_at
       pub ends : EndsSession d.ended d.last d.rest source.faults source_now (given (replied d.exchanges) sink) sink_now
 
--- An event that each shard was asked for, and what each replied, by the shard's number.
-pub record Broadcast : Type 0 where
-  pub event : Event
-  pub replies : ℕ → shard.Reply
-
--- what was asked for
-abbrev pub events_in : List Broadcast → List Event
-events_in asked = map (λ b. b.event) asked
-
--- what the administrator did at shard i
-abbrev pub acts_in : List Broadcast → ℕ → History
-acts_in asked i = map (λ b. record { who = administrator; event = b.event; reply = b.replies i }) asked
-
--- what all shards replied to the n-th event, from 0
-abbrev pub replies_at : ℕ → List Broadcast → ℕ → List shard.Reply
-replies_at shards asked n = get_or (map (λ b. map b.replies (range_with_len 0 shards)) asked) n []
-
 -- A line as it was executed: when, what the desk told of itself then, and what was asked of the shards.
 pub record Exchange : Type 0 where
   pub line : List ℕ
@@ -119,10 +98,6 @@ pub record Exchange : Type 0 where
 -- what is replied to it; backends have outlets where the settings say so
 abbrev pub replies_of : ℕ → file.Settings → Exchange → List AdminReply
 replies_of shards settings e = replies_by (nat_lt 0 settings.transport.outlets) (replies_at shards e.asked) e.facts settings e.now (command e.line)
-
--- what it asks for
-abbrev pub events_of_line : Exchange → List Event
-events_of_line e = admin_events (command e.line)
 
 -- A reply was cut, since the output failed: those before it were written whole, and of it a prefix. Of the events just those were
 -- asked for whose replies were written whole, and the one of the reply that was cut.
@@ -140,7 +115,7 @@ is_quit answer = false
 
 -- A line was executed whole, at a moment that the clock may say, and doesn't ask for the end.
 pub record GoesOn (says : ℕ → Type 0) (e : Exchange) : Type 0 where
-  pub all : events_in e.asked ≡ events_of_line e
+  pub all : events_in e.asked ≡ admin_events (command e.line)
   pub goes_on : is_quit (command e.line) ≡ false
   pub now : says e.now
 
@@ -151,5 +126,61 @@ admin_talk shards settings says = record {
   text = λ e. replies_text (replies_of shards settings e);
   goes_on = GoesOn says;
   quits = λ e. (is_quit (command e.line) ≡ true) × (e.asked ≡ []);
-  is_cut = λ e sink sink_now. IsCut (replies_of shards settings e) (events_of_line e) (events_in e.asked) sink sink_now × says e.now;
+  is_cut = λ e sink sink_now. IsCut (replies_of shards settings e) (admin_events (command e.line)) (events_in e.asked) sink sink_now × says e.now;
 }
+
+-- A session that was served: what was seen of the end that asks and the one that is told, before and after; whether it was a fault.
+pub record Visit : Type 0 where
+  pub asking : Object
+  pub asking_now : Object
+  pub answered : Object
+  pub answered_now : Object
+  pub is_fault : Bool
+
+-- how many of visits were counted as faults
+abbrev pub faults_among : List Visit → ℕ
+faults_among visits = sum_by (λ v. if v.is_fault then 1 else 0) visits
+
+-- Sessions were taken of a door and given back, one after another, after so many failures of the door. The ends of each had no
+-- faults at first, and it is a fault only where one of them failed. Each failure and each session took a turn of the door, and each
+-- failure and each visit that is a fault raised the door's faults. The door is where it was, and no session is out.
+pub record ServesDoor (visits : List Visit) (failures : ℕ) (door door_now : Object) : Type 0 where
+  pub fresh : AllByRecursion (λ v. (v.asking.faults ≡ 0) × (v.answered.faults ≡ 0)) visits
+  pub causes : AllByRecursion (λ v. v.is_fault ≡ true → 0 < v.asking_now.faults + v.answered_now.faults) visits
+  pub sessions : with_back (map (λ v. session_of v.asking_now v.answered_now) visits) door.content
+      ≡ with_sessions (map (λ v. session_of v.asking v.answered) visits) door_now.content
+  pub many : door.turns + (failures + length visits) ≤ door_now.turns
+  pub place : door_now.opened_at ≡ door.opened_at
+  pub none_out : door_now.is_out ≡ false
+  pub rises : door.faults ≤ door_now.faults
+  pub faults : RoseBy (failures + faults_among visits) door.faults door_now.faults
+
+-- whether a session ended since one of its ends failed
+abbrev pub ends_by_fault : SessionEnd → Bool
+ends_by_fault ReadFault = true
+ends_by_fault WriteFault = true
+ends_by_fault ended = false
+
+module _ (shards : ℕ) (settings : file.Settings) (says : ℕ → Type 0) where
+  -- a visit of a door's session went so, and is a fault just where the session ended by one
+  pub record IsVisitOf (v : Visit) (d : Dialogue Exchange) : Type 0 where
+    pub talked : HasTalked (admin_talk shards settings says) d v.asking v.asking_now v.answered v.answered_now
+    pub fault : v.is_fault ≡ ends_by_fault d.ended
+
+-- what sessions asked of all shards, one after another
+abbrev pub asked_by : List (Dialogue Exchange) → List Broadcast
+asked_by dialogues = flat_map (λ d. flat_map (λ e. e.asked) (lines_in d)) dialogues
+
+-- what a command calls of the desk besides: it sets the health, where it says so
+abbrev pub health_calls : Result Command AdminFault → List DeskCall
+health_calls (Ok (Health Up)) = record { event = SetHealth true; answer = Done } ∷ []
+health_calls (Ok (Health Down)) = record { event = SetHealth false; answer = Done } ∷ []
+health_calls answer = []
+
+-- a line's calls of the desk: it asks for the facts of its replies, and sets the health, if it says so; a last line calls nothing
+abbrev pub line_calls : Exchange → List DeskCall
+line_calls e = if is_quit (command e.line) then [] else (record { event = Look; answer = Reported e.facts } ∷ health_calls (command e.line))
+
+-- the calls of sessions, in order
+abbrev pub called_in : List (Dialogue Exchange) → List DeskCall
+called_in dialogues = flat_map (λ d. flat_map line_calls (lines_in d)) dialogues

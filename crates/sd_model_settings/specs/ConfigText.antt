@@ -16,18 +16,6 @@ limit_text Infinite = codes "inf"
 abbrev pub with_commas : List (List ℕ) → List ℕ
 with_commas = join_with_byte 44
 
--- an entry of `histogram`: its metric, and its limits after a space
-abbrev pub histogram_line : List ℕ → Classes → List ℕ
-histogram_line name c = config_line name (c.metric ++ 32 ∷ with_commas (map limit_text c.limits))
-
--- an entry of `repeater`
-abbrev pub repeater_line : List ℕ → Target → List ℕ
-repeater_line name t = config_line name (t.host ++ 58 ∷ decimal t.port)
-
--- an entry of `nodes`
-abbrev pub node_line : List ℕ → Node → List ℕ
-node_line name n = config_line name (n.host ++ 58 ∷ decimal n.port ++ 58 ∷ decimal n.adminport)
-
 -- the lines of a value under its name: one, or one for each entry of a list of tables
 abbrev pub value_lines : List ℕ → (kind : SettingKind) → Value kind → List (List ℕ)
 value_lines name (Whole least most) n = config_line name (decimal n) ∷ []
@@ -39,9 +27,9 @@ value_lines name Host s = config_line name s ∷ []
 value_lines name Thresholds zs = config_line name (with_commas (map number_text zs)) ∷ []
 value_lines name Backends names = config_line name (with_commas names) ∷ []
 value_lines name ClassNames names = config_line name (with_commas names) ∷ []
-value_lines name Histograms entries = map (histogram_line name) entries
-value_lines name Targets entries = map (repeater_line name) entries
-value_lines name Nodes entries = map (node_line name) entries
+value_lines name Histograms entries = map (λ c. config_line name (c.metric ++ 32 ∷ with_commas (map limit_text c.limits))) entries
+value_lines name Targets entries = map (λ t. config_line name (t.host ++ 58 ∷ decimal t.port)) entries
+value_lines name Nodes entries = map (λ n. config_line name (n.host ++ 58 ∷ decimal n.port ++ 58 ∷ decimal n.adminport)) entries
 
 -- the lines of a group's values, by its table, where its names have something before them
 abbrev pub group_lines : {A : Type 0} → List ℕ → SettingTable A → A → List (List ℕ)

@@ -4,15 +4,11 @@
 use Rattle.std.specs.{Prelude.{ℕ, ◌^◌, ◌==◌, ◌&&◌, ◌||◌, Bool, true, false, not, nat_le, if◌then◌else◌, ℤ, pos, unsigned_abs, int_lt, int_le, List, [], ◌∷◌, codes, Result, Ok, Err, map, ◌*◌}, List.{list_any, list_all}, Str.{bytes_eq}, Ordering.{int_eq}}
 use Rattle.toml.specs.Data.{Data, string, array, Items, no_items, item, Members, get_member}
 use Rattle.sd_model_text.specs.Numbers.{Limit, Below, Infinite, ascends}
-use Rattle.sd_model_settings.specs.Values.{ValueFlaw, OtherKind, both, mapped, ranged, whole_read, text, is_host, is_metric, decimal, each, are_at_most, listed, one_or_list, are_distinct, entry, required, optional, flag, is_prefix, is_filled_prefix}
-
--- thresholds, no two of them equal
-abbrev pub are_thresholds : List ℤ → Bool
-are_thresholds xs = list_all (λ z. nat_le (unsigned_abs z) 100000000 && not (unsigned_abs z == 0)) xs && are_distinct int_eq xs
+use Rattle.sd_model_settings.specs.Values.{ValueFlaw, OtherKind, both, mapped, ranged, whole_read, text, is_host, is_name_text, decimal, each, are_at_most, listed, one_or_list, are_distinct, entry, required, optional, flag, is_filled_prefix}
 
 -- at most 16 thresholds, in a list or one alone
 abbrev pub thresholds : Data → Result (List ℤ) ValueFlaw
-thresholds d = ranged are_thresholds (ranged (are_at_most 16) (each decimal (one_or_list d)))
+thresholds d = ranged (λ xs. list_all (λ z. nat_le (unsigned_abs z) 100000000 && not (unsigned_abs z == 0)) xs && are_distinct int_eq xs) (ranged (are_at_most 16) (each decimal (one_or_list d)))
 
 -- the name of a backend
 abbrev pub is_backend : List ℕ → Bool
@@ -39,22 +35,14 @@ abbrev pub is_limit : Limit → Bool
 is_limit (Below z) = int_lt (pos 0) z && int_le z (pos (10 ^ 16))
 is_limit Infinite = true
 
--- limits in range that ascend
-abbrev pub are_limits : List Limit → Bool
-are_limits limits = list_all is_limit limits && ascends limits
-
--- at most 64 limits, of which the last alone may be `inf`; elsewhere that is of another kind
-abbrev pub bins_of : Items → Result (List Limit) ValueFlaw
-bins_of ds = if has_early_inf ds then Err OtherKind else ranged are_limits (ranged (are_at_most 64) (each (λ d. if is_inf d then Ok Infinite else mapped Below (decimal d)) ds))
-
 abbrev pub bins_read : Data → Result (List Limit) ValueFlaw
-bins_read (array ds) = bins_of ds
+bins_read (array ds) = if has_early_inf ds then Err OtherKind else ranged (λ limits. list_all is_limit limits && ascends limits) (ranged (are_at_most 64) (each (λ d. if is_inf d then Ok Infinite else mapped Below (decimal d)) ds))
 bins_read _ = Err OtherKind
 
 -- an entry of `histogram`: a table with `metric` and `bins`
 abbrev pub classes : Data → Result Classes ValueFlaw
 classes = entry (λ ms. mapped (λ p. record { metric = p.0; limits = p.1 })
-    (both (required (text is_metric) (get_member (codes "metric") ms)) (required bins_read (get_member (codes "bins") ms))))
+    (both (required (text (is_name_text 255)) (get_member (codes "metric") ms)) (required bins_read (get_member (codes "bins") ms))))
 
 -- the host and the port of an entry
 abbrev pub host_and_port : Members → Result (List ℕ × ℕ) ValueFlaw
@@ -141,7 +129,7 @@ abbrev pub read_as : (kind : SettingKind) → Data → Result (Value kind) Value
 read_as (Whole least most) d = whole_read least most d
 read_as (Share least most all earlier) d = ranged (λ n. nat_le (earlier * n) all) (whole_read least most d)
 read_as Flag d = flag d
-read_as Prefix d = text is_prefix d
+read_as Prefix d = text (is_name_text 64) d
 read_as FilledPrefix d = text is_filled_prefix d
 read_as Host d = text is_host d
 read_as Thresholds d = thresholds d

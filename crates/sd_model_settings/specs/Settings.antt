@@ -2,6 +2,7 @@
 -- and what is taken out of the values: what a record is made by, and Graphite's names.
 use Rattle.std.specs.{Prelude.{ℕ, nat_lt, if◌then◌else◌, List, length, take, codes, Option, Some, None, Result, Ok, Err, IfErr, [], ◌∷◌, ◌++◌, ℤ, ok_or}, Str.{is_utf8, bytes_eq}, List.{list_any}, Option.{option_or}}
 use Rattle.toml.specs.{Data.{Members, Data, array, table, Items, no_items, item, no_members, member, get_member}, Parse.{parse_document}}
+use Rattle.sd_model_text.specs.Lists.{◌>>=◌}
 use Rattle.sd_model_settings.specs.{Values.{ValueFlaw, OtherKind, OutsideRange, members}, Entries.{Classes, read_as}, Table.{server, deletion_rules, addresses, namespace, entry_lists, sizes, flush_rules, transport, setting_names}}
 pub use Rattle.sd_model_settings.specs.Table.{SettingTable, Values, Then, Server, Deletions, Addresses, Namespace, EntryLists, Sizes, FlushRules, Transport}
 
@@ -9,12 +10,6 @@ pub use Rattle.sd_model_settings.specs.Table.{SettingTable, Values, Then, Server
 pub data SettingsFlaw : Type 0 where
   NotToml : SettingsFlaw
   Unknown WrongKind OutOfRange : (name : List ℕ) → SettingsFlaw
-
--- what follows a value that was read; the first fault decides
-infixl 10 ◌>>=◌
-abbrev pub ◌>>=◌ : {A B : Type 0} → Result A SettingsFlaw → (A → Result B SettingsFlaw) → Result B SettingsFlaw
-(Ok x) >>= f = f x
-(Err flaw) >>= f = Err flaw
 
 -- a name as a fault has it: its first 64 bytes
 abbrev pub shown : List ℕ → List ℕ
@@ -163,8 +158,7 @@ unfoldable pub default_settings : Settings
 unfolding read settings_in
 default_settings = value_read (settings_in setting_tables (top no_members)) tt
 
--- What a record is made by: the interval of rates in milliseconds, the thresholds, the bins, and the names of the classes of
--- timers' lines that are chosen.
+-- What a record is made by: the interval of rates in milliseconds, the thresholds, the bins, the chosen classes of timers' lines.
 pub record Plan : Type 0 where
   pub interval_ms : ℕ
   pub thresholds : List ℤ

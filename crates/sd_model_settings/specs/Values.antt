@@ -1,5 +1,4 @@
--- What a value of a settings file is read as, or what is wrong with it. The values are those of TOML (https://toml.io/en/v1.0.0),
--- as the crate `toml` has them.
+-- What a value of a settings file is read as, or what is wrong with it. The values are those of TOML (https://toml.io/en/v1.0.0).
 use Rattle.std.specs.{Prelude.{ℕ, ◌^◌, ◌&&◌, Bool, true, not, nat_le, nat_lt, if◌then◌else◌, ℤ, pos, negsuc, ◌*ℤ◌, unsigned_abs, List, [], ◌∷◌, length, Option, Some, None, Result, Ok, Err}, List.{list_any, list_all}}
 use Rattle.toml.specs.Data.{Data, string, integer, boolean, array, table, Items, no_items, item, Members}
 use Rattle.sd_model_text.specs.{Names.{is_name_byte}, Numbers.{NumberFlaw, BadShape, BadRange, decimal_value}}
@@ -42,21 +41,17 @@ abbrev pub text : (List ℕ → Bool) → Data → Result (List ℕ) ValueFlaw
 text passes (string s) = if passes s then Ok s else Err OutsideRange
 text passes _ = Err OtherKind
 
--- the text of a prefix: at most 64 bytes of names
-abbrev pub is_prefix : List ℕ → Bool
-is_prefix s = nat_le (length s) 64 && list_all is_name_byte s
+-- at most so many bytes of names; the text of a prefix has 64, and a part of metrics' names 255
+abbrev pub is_name_text : ℕ → List ℕ → Bool
+is_name_text most s = nat_le (length s) most && list_all is_name_byte s
 
 -- the text of a prefix that isn't empty
 abbrev pub is_filled_prefix : List ℕ → Bool
-is_filled_prefix s = nat_lt 0 (length s) && is_prefix s
+is_filled_prefix s = nat_lt 0 (length s) && is_name_text 64 s
 
 -- the text of a host: 1 to 64 of these bytes
 abbrev pub is_host : List ℕ → Bool
 is_host s = nat_lt 0 (length s) && nat_le (length s) 64 && list_all (λ b. nat_le 33 b && nat_le b 126) s
-
--- the text of a part of metrics' names: at most 255 bytes of names
-abbrev pub is_metric : List ℕ → Bool
-is_metric s = nat_le (length s) 255 && list_all is_name_byte s
 
 -- a number text's value, where a text that is none is of another kind
 abbrev pub decimal_text : Result ℤ NumberFlaw → Result ℤ ValueFlaw

@@ -2,7 +2,8 @@ ghost use Rattle.std.specs.Prelude.{◌≡◌, ◌∷◌, [], pos, codes, Ok, Er
 ghost use Rattle.sd_model_text.specs.Numbers.{Below, Infinite};
 ghost use Rattle.sd_model_settings.specs.Settings.{settings, Unknown, WrongKind, OutOfRange, NotToml, default_settings};
 ghost use Rattle.sd_model_settings.specs.Table.{server, deletion_rules, addresses, namespace, sizes, flush_rules, transport};
-ghost use Rattle.sd_model_settings.specs.ConfigText.{group_lines, histogram_line, repeater_line, node_line};
+ghost use Rattle.sd_model_settings.specs.ConfigText.{group_lines, value_lines};
+ghost use Rattle.sd_model_settings.specs.Entries.{Histograms, Targets, Nodes};
 
 /// What files set.
 #[tactic(auto, unfolding(crate::proofs::OnLiterals::settings_on_literals))]
@@ -155,9 +156,10 @@ pub fn config_lines_of_files()
         ∷ codes "batchBytes: 0\n"
         ∷ codes "receiveBuffer: 0\n"
         ∷ [] }
-    ensures a_histogram { histogram_line (codes "histogram") (record { metric = codes "web"; limits = Below (pos 2500000) ∷ Infinite ∷ [] })
-        ≡ codes "histogram: web 2.5,inf\n" }
-    ensures no_limits { histogram_line (codes "histogram") (record { metric = codes "web"; limits = [] }) ≡ codes "histogram: web \n" }
-    ensures a_target { repeater_line (codes "repeater") (record { host = codes "h"; port = 8125 }) ≡ codes "repeater: h:8125\n" }
-    ensures a_node { node_line (codes "nodes") (record { host = codes "h"; port = 8125; adminport = 8126 }) ≡ codes "nodes: h:8125:8126\n" }
+    ensures a_histogram { value_lines (codes "histogram") Histograms (record { metric = codes "web"; limits = Below (pos 2500000) ∷ Infinite ∷ [] } ∷ [])
+        ≡ codes "histogram: web 2.5,inf\n" ∷ [] }
+    ensures no_limits { value_lines (codes "histogram") Histograms (record { metric = codes "web"; limits = [] } ∷ []) ≡ codes "histogram: web \n" ∷ [] }
+    ensures a_target { value_lines (codes "repeater") Targets (record { host = codes "h"; port = 8125 } ∷ []) ≡ codes "repeater: h:8125\n" ∷ [] }
+    ensures a_node { value_lines (codes "nodes") Nodes (record { host = codes "h"; port = 8125; adminport = 8126 } ∷ [])
+        ≡ codes "nodes: h:8125:8126\n" ∷ [] }
 {}

@@ -7,13 +7,12 @@ use Rattle.std.specs.List.{list_any}
 use Rattle.std.proofs.lemmas.List.Sums.{fold_push, sum_by-append, sum_by-cons}
 use Rattle.sd_model_text.specs.Names.{Kind}
 use Rattle.sd_model_text.specs.Lines.{Sample}
-use Rattle.sd_model_shard.specs.Rows.{RowId, row_cmp, Rows, Kept, Entry, row_of, is_same_row, row_in, touched, is_listed, listed_in, samples_in, samples_where, Tell, is_hit, rows_taken_out, rows_left}
+use Rattle.sd_model_shard.specs.Rows.{RowId, row_cmp, Rows, Kept, Entry, row_of, is_same_row, row_in, touched, is_listed, samples_in, samples_where, Tell, is_hit, rows_taken_out, rows_left}
 use Rattle.sd_model_shard.specs.Shard.{State, empty_state, Cause, Policy, kept_rows, admitted, after_swap, after_delete}
-use Rattle.sd_model_shard.specs.Whereabouts.{rows_with}
 use Rattle.sd_model_shard.proofs.DeletionLemmas.{retained-with}
 use Rattle.sd_model_shard.proofs.SummaryLemmas.{Tell-empty, Tell-with, Tell-retain, Tell-kept_rows, get-touched}
 use Rattle.sd_model_shard.proofs.SumLemmas.{samples-with, samples-none, samples-parts}
-use Rattle.sd_model_shard.proofs.Short.{sampled, entries_taken_out, entries_left}
+use Rattle.sd_model_shard.proofs.Short.{sampled, entries_taken_out, entries_left, rows_with, listed_in}
 
 -- What a shard has where these entries are held: the rows kept before, which had no samples, and those of the entries.
 pub record Stands (kept_before : Rows) (state : State) (journal : List Entry) : Type 0 where

@@ -9,8 +9,8 @@ use Rattle.std.proofs.lemmas.List.Sums.{sum_by-cons}
 use Rattle.sd_model_text.specs.Numbers.{rounded, Limit, Below, Infinite, limit_lt, ascends}
 use Rattle.sd_model_text.proofs.Rounding.{rounded-exact}
 use Rattle.sd_model_shard.proofs.SortedLemmas.{one_if}
-use Rattle.sd_model_shard.specs.Values.{part_count, PartStatistics, part, pct, is_below, Bin, bins_from, bins}
-use Rattle.sd_model_shard.proofs.Short.{bin, part_taken}
+use Rattle.sd_model_shard.specs.Values.{PartStatistics, part, pct, is_below, Bin, bins_from, bins}
+use Rattle.sd_model_shard.proofs.Short.{bin, part_taken, part_count}
 
 whole_count : (n : ℕ) → rounded (100000000 * n) 100000000 ≡ n
 whole_count n = ap (λ k. rounded k 100000000) (let turned : 100000000 * n ≡ n * 100000000 = omega arith in turned) ∙ rounded-exact n 100000000 (omega arith)

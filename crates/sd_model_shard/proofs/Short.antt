@@ -1,15 +1,34 @@
 -- Short names that proofs have for parts of definitions.
-use Rattle.std.specs.Prelude.{List, fold, min, ◌+◌, ℤ, map, flat_map, ℕ, [], pos, filter, not, count_by, ◌&&◌, ◌^◌, drop, if◌then◌else◌, length, take, ◌-◌}
+use Rattle.std.specs.Prelude.{List, fold, min, ◌+◌, ℤ, map, flat_map, ℕ, [], pos, filter, not, count_by, ◌&&◌, ◌^◌, drop, if◌then◌else◌, length, take, ◌-◌, unsigned_abs, ◌*◌, ◌==◌, filter_map}
 use Rattle.std.specs.FinMap.{keys, from_entries}
 use Rattle.std.specs.Ordering.{int_cmp}
-use Rattle.sd_model_shard.specs.Rows.{Entry, RowId, Summary, statistics_by, Kept, summary_after, is_hit, row_of}
-use Rattle.sd_model_shard.specs.History.{History, held_by, Act, state_after}
-use Rattle.sd_model_shard.specs.Shard.{State, last_number, Event, Limits, Policy, step}
-use Rattle.sd_model_shard.specs.Whereabouts.{taken_out, acts_over, Flushed, flushed_by, Places}
+use Rattle.sd_model_shard.specs.Rows.{Entry, RowId, Summary, statistics_by, Kept, summary_after, is_hit, row_of, Rows, touched, DumpRow, amount_by, is_listed, samples_where}
+use Rattle.sd_model_shard.specs.History.{History, held_by, Act, state_after, taken_out, acts_over, Flushed, flushed_by, Places, cause_in, fates}
+use Rattle.sd_model_shard.specs.Shard.{State, last_number, Event, Limits, Policy, step, Cause}
 use Rattle.sd_model_text.specs.Names.{Kind}
 use Rattle.sd_model_text.specs.Lines.{Sample}
-use Rattle.sd_model_text.specs.Numbers.{weight, Limit}
+use Rattle.sd_model_text.specs.Numbers.{weight, Limit, rounded}
 use Rattle.sd_model_shard.specs.Values.{is_below, is_upper}
+
+-- how many samples of rows are listed
+abbrev pub listed_in : Rows → ℕ
+listed_in live = samples_where (λ id. is_listed id.kind) live
+
+-- what a dump tells of a row
+abbrev pub dump_row : RowId × Kept → DumpRow
+dump_row row = record { key = row.0.key; samples = row.1.since.samples; amount = amount_by row.0.kind row.1.since }
+
+-- why the others were dropped
+abbrev pub causes : History → List Cause
+causes acts = filter_map (λ f. cause_in f.placed) (fates acts)
+
+-- rows kept before, and the rows of entries taken since
+abbrev pub rows_with : Rows → List Entry → Rows
+rows_with live entries = fold (λ rows e. touched rows e.sample) live entries
+
+-- how many of n values a threshold takes: the whole number nearest to so many percent of n, and 1 of one value
+abbrev pub part_count : ℤ → ℕ → ℕ
+part_count threshold n = if n == 1 then 1 else rounded (unsigned_abs threshold * n) 100000000
 
 -- so many values, from the end that the threshold takes
 abbrev pub part_taken : ℤ → ℕ → List ℤ → List ℤ

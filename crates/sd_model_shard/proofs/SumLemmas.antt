@@ -12,11 +12,10 @@ use Rattle.std.proofs.lemmas.List.Sorted.{IsPermutation-filter_both, sum_by-IsPe
 use Rattle.sd_model_text.specs.Names.{Kind, Counter, Timer, Gauge, Set}
 use Rattle.sd_model_text.specs.Lines.{Sample}
 use Rattle.sd_model_shard.specs.Rows.{RowId, row_cmp, Summary, Kept, Rows, Entry, row_of, without_samples, summary_after, row_in, touched, samples_where, Tell}
-use Rattle.sd_model_shard.specs.Whereabouts.{rows_with}
 use Rattle.sd_model_shard.proofs.RowLemmas.{rows_exact, rows_total}
 use Rattle.sd_model_shard.proofs.EntryLemmas.{below_less, below_none, and_first, and_second, found_behind}
 use Rattle.sd_model_shard.proofs.ReportedLemmas.{entries-retain_keys}
-use Rattle.sd_model_shard.proofs.Short.{statistics_of, sampled}
+use Rattle.sd_model_shard.proofs.Short.{statistics_of, sampled, rows_with}
 
 -- what a row weighs
 abbrev weigh : (RowId → Bool) → RowId × Kept → ℕ

@@ -10,12 +10,11 @@ use Rattle.sd_model_text.specs.Names.{Kind, Counter, Timer, Gauge, Set}
 use Rattle.sd_model_text.specs.Lines.{Sample}
 use Rattle.sd_model_shard.specs.Rows.{RowId, row_cmp, Summary, Kept, Rows, Entry, row_of, is_same_row, entries_of, sample_weight, gauge_after, without_samples, summary_after, row_in, touched, Tell}
 use Rattle.sd_model_shard.specs.Shard.{Policy, kept_by, left_of, kept_rows, expires}
-use Rattle.sd_model_shard.specs.Whereabouts.{rows_with}
 use Rattle.sd_model_shard.specs.Values.{total}
 use Rattle.sd_model_shard.proofs.RowLemmas.{rows_exact, rows_total}
 use Rattle.sd_model_shard.proofs.DeletionLemmas.{same_row}
 use Rattle.sd_model_shard.proofs.EntryLemmas.{get-left}
-use Rattle.sd_model_shard.proofs.Short.{statistics_of, sampled, no_samples}
+use Rattle.sd_model_shard.proofs.Short.{statistics_of, sampled, no_samples, rows_with}
 
 -- the statistics of a row's own entries
 abbrev stats : Kind → ℤ → List Entry → Summary

@@ -1,10 +1,9 @@
 -- A shard: what it holds, and what one event does to it.
 use Rattle.std.specs.{Prelude.{ℕ, ◌+◌, ◌-◌, ◌^◌, min, nat_lt, nat_le, Bool, true, false, not, ◌&&◌, List, length, filter_map, if◌then◌else◌, Option, Some, None, option_map}, FinMap.{contains_key, empty, entries, from_entries, len}}
 use Rattle.sd_model_text.specs.{Names.{Kind, Counter, Timer, Gauge, Set}, Lines.{Sample}}
-use Rattle.sd_model_shard.specs.Rows.{RowId, Kept, Rows, row_of, without_samples, is_listed, touched, samples_in, listed_in, DumpRow, keys_of, rows_taken_out, rows_left, dump_of}
+use Rattle.sd_model_shard.specs.Rows.{RowId, Kept, Rows, row_of, without_samples, is_listed, touched, samples_in, DumpRow, keys_of, rows_taken_out, rows_left, dump_of, samples_where}
 
--- A shard's state: its rows; how many samples their summaries have together, and how many of these are listed; and how many samples
--- were taken, flushed, deleted and dropped so far.
+-- A shard's state: its rows; how many samples they have, and how many of these are listed; and how many had each fate so far.
 pub record State : Type 0 where
   pub live : Rows
   pub held : ℕ
@@ -84,8 +83,7 @@ pub data Placed : Type 0 where
   Taken : (number : ℕ) → Placed
   Dropped : (cause : Cause) → Placed
 
--- what a row of a kind goes on as after a swap, without samples: a gauge's base becomes its value, and its swaps grow by 1, up to
--- 10^9; the base and the swaps of other rows stay
+-- what a row goes on as after a swap: a gauge's base becomes its value, and its swaps grow by 1, up to 10^9; other rows keep both
 abbrev pub kept_by : Kind → Kept → Kept
 kept_by Gauge kept = without_samples kept.since.gauge (min (kept.swaps + 1) (10 ^ 9))
 kept_by kind kept = without_samples kept.base kept.swaps
@@ -126,7 +124,7 @@ after_delete kind pattern state =
     record state {
       live = rows_left kind pattern state.live;
       held = state.held - samples_in out;
-      listed = state.listed - listed_in out;
+      listed = state.listed - samples_where (λ id. is_listed id.kind) out;
       deleted = state.deleted + samples_in out;
     }
 
@@ -138,8 +136,7 @@ pub data Event : Type 0 where
   Dump : (kind : Kind) → Event
   Look : Event
 
--- What a shard tells of itself: how many rows it has, how many samples it holds, and how many it took, flushed, deleted and
--- dropped.
+-- What a shard tells of itself: how many rows it has, how many samples it holds, and took, flushed, deleted and dropped so far.
 pub record Numbers : Type 0 where
   pub rows : ℕ
   pub held : ℕ

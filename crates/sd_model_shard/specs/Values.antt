@@ -8,8 +8,7 @@ use Rattle.sd_model_text.specs.Numbers.{rounded, round, per_second, Limit, Below
 unfoldable pub sorted : List ℤ → List ℤ
 sorted values = flat_map (λ v. filter (int_eq v) values) (keys (from_entries {R = int_cmp} (map (λ v. (v, tt {0})) values)))
 
--- What a timer's statistics are taken of: its values in order, what its samples weigh together, and the flush interval in
--- milliseconds.
+-- What a timer's statistics are taken of: its values in order, what its samples weigh together, and the interval in milliseconds.
 pub record Timer : Type 0 where
   pub values : List ℤ
   pub weight : ℤ
@@ -86,10 +85,6 @@ whole_statistics timer =
       median = median timer.values;
     }
 
--- how many of n values a threshold takes: the whole number nearest to so many percent of n, and 1 of one value
-abbrev pub part_count : ℤ → ℕ → ℕ
-part_count threshold n = if n == 1 then 1 else rounded (unsigned_abs threshold * n) 100000000
-
 -- whether a threshold takes the least values; otherwise it takes the greatest
 abbrev pub is_upper : ℤ → Bool
 is_upper threshold = int_lt (pos 0) threshold
@@ -119,7 +114,7 @@ part threshold values =
 -- the statistics at a threshold, which is left out where its part has no value
 abbrev pub pct : ℤ → List ℤ → Option PartStatistics
 pct threshold values =
-    let count = part_count threshold (length values) in
+    let count = if length values == 1 then 1 else rounded (unsigned_abs threshold * length values) 100000000 in
     if count == 0 then None else Some (part threshold (if is_upper threshold then take count values else drop (length values - count) values))
 
 -- whether a value is below a limit

@@ -1,19 +1,14 @@
--- The lines of a stream, each read as a datagram is; streams read one after another, what their lines asked of shards and counted
--- for.
+-- The lines of a stream, each read as a datagram is; streams that were read one after another, and what their lines count for.
 use Rattle.std.specs.{Prelude.{◌≡◌, ⊤, ℕ, ◌<◌, Bool, true, false, List, [], ◌∷◌, length, flat_map, All, if◌then◌else◌, nat_le, map}, List.{AllByRecursion, concat, list_any, AllZip}}
 use Rattle.sd_model_outside.specs.Outside.{Object, IsAtEnd, Reads, Rose}
 use Rattle.sd_model_record.specs.DeskHistory.{DeskCall, DeskEvent, Add, AdminFault, Look}
-use Rattle.sd_model_serve.specs.{Doors.{Visit}, Receiving.{LoopEnd, most_turns, Addition, additions_in}}
+use Rattle.sd_model_serve.specs.{Sessions.{Visit}, Receiving.{LoopEnd, most_turns, Addition, additions_in}}
 use Rattle.sd_model_text.specs.{Lists.{split}, Lines.{Sample, samples_of, pieces, bad_of, longest_datagram}}
 
 -- A line of a stream, without its newline: its bytes, or that it has more of them than it may.
 pub data StreamLine : Type 0 where
   Line : (bytes : List ℕ) → StreamLine
   Long : StreamLine
-
--- bytes without a newline, as a line
-abbrev pub cut_of : List ℕ → StreamLine
-cut_of part = if nat_le (length part) longest_datagram then Line part else Long
 
 -- a list without its last element
 abbrev pub but_last : {A : Type 0} → List A → List A
@@ -23,7 +18,7 @@ but_last (x ∷ y ∷ more) = x ∷ but_last (y ∷ more)
 
 -- the lines of a stream: its parts between newlines without the last part
 abbrev pub stream_lines : List ℕ → List StreamLine
-stream_lines stream = map cut_of (but_last (split 10 stream))
+stream_lines stream = map (λ part. if nat_le (length part) longest_datagram then Line part else Long) (but_last (split 10 stream))
 
 -- the samples of a line; one that is too long has none
 abbrev pub samples_of_line : StreamLine → List Sample
@@ -108,10 +103,6 @@ pub record IsStreamOf (v : Visit) (s : Stream) : Type 0 where
   pub read : ReadsStream s v.asking v.asking_now
   pub fault : v.is_fault ≡ ends_by_failure s.ended
   pub unanswered : v.answered_now ≡ v.answered
-
--- each of a door's sessions was the stream at its place
-abbrev pub AreStreamsOf : List Visit → List Stream → Type 0
-AreStreamsOf = AllZip IsStreamOf
 
 -- What a reader of lines did: the sessions of its door, each as the stream that it was; the door's failures; and how it ended.
 pub record LineTrace : Type 0 where

@@ -7,6 +7,10 @@ use Rattle.sd_model_text.specs.Names.{KeyFault}
 use Rattle.std.specs.Result.{result_map_both}
 use Rattle.sd_model_text.specs.Numbers.{NumberFlaw}
 
+-- whether a byte is `.`
+abbrev pub is_point : ℕ → Bool
+is_point b = b == 46
+
 -- the six digits of a fraction of one
 abbrev pub six_digits : ℕ → List ℕ
 six_digits n = map (λ unit. 48 + n / unit % 10) (100000 ∷ 10000 ∷ 1000 ∷ 100 ∷ 10 ∷ 1 ∷ [])

@@ -1,7 +1,7 @@
 -- Datagrams and lines: the pieces of a datagram, and the sample of a piece. The form of a piece is that of a line of StatsD,
 -- `NAME:VALUE|TYPE`, with or without `|@RATE` after it; a line may have several values after its name.
 use Rattle.std.specs.{Prelude.{ℕ, ◌^◌, ◌==◌, ◌&&◌, Bool, true, false, not, nat_lt, nat_le, ℤ, pos, negsuc, unsigned_abs, int_lt, List, [], ◌∷◌, ◌++◌, length, map, filter, flat_map, if◌then◌else◌, Option, Some, None, Result, Ok, Err, slice_get, unwrap_or, ok_or, filter_map, count_by, codes}, Str.{bytes_eq}, Option.{option_map_or}, Result.{result_map_both, result_ok, is_err}}
-use Rattle.sd_model_text.specs.{Lists.{is_white_space, trim_end, split, cut_at}, Names.{Kind, Counter, Timer, Gauge, Set, KeyFault, clean}, Numbers.{NumberFlaw, BadRange, decimal_value, has_sign}}
+use Rattle.sd_model_text.specs.{Lists.{is_white_space, trim_end, split, cut_at, ◌>>=◌}, Names.{Kind, Counter, Timer, Gauge, Set, KeyFault, clean}, Numbers.{NumberFlaw, BadRange, decimal_value, has_sign}}
 
 -- A sample. The value and the rate are millionths; a set has a member, and no other kind has one.
 pub record Sample : Type 0 where
@@ -89,19 +89,12 @@ abbrev pub member_of : List ℕ → List ℕ
 member_of [] = codes "0"
 member_of (b ∷ text) = b ∷ text
 
--- The sample of a key with what its fields say: only a counter and a timer are weighed by their rate, a gauge may have a sign, and
--- a set's value is its member.
+-- The sample of a key and its fields: only counters and timers are weighed by their rate, and a set's value is its member.
 abbrev pub sample : Kind → List ℕ → List ℕ → ℤ → ℕ → Sample
 sample Counter key text v rate = record { kind = Counter; key = key; value = v; rate = rate; is_signed = false; member = [] }
 sample Timer key text v rate = record { kind = Timer; key = key; value = v; rate = rate; is_signed = false; member = [] }
 sample Gauge key text v rate = record { kind = Gauge; key = key; value = v; rate = 1000000; is_signed = has_sign text; member = [] }
 sample Set key text v rate = record { kind = Set; key = key; value = v; rate = 1000000; is_signed = false; member = member_of text }
-
--- what follows where nothing is wrong; the first flaw decides
-infixl 10 ◌>>=◌
-abbrev pub ◌>>=◌ : {A B : Type 0} → Result A Flaw → (A → Result B Flaw) → Result B Flaw
-(Ok x) >>= f = f x
-(Err flaw) >>= f = Err flaw
 
 -- the kind of the field after the value
 abbrev pub typed : List ℕ → Result Kind Flaw

@@ -53,8 +53,7 @@ fnv1a bytes = fold (λ hash b. bit_xor hash b * 0x100000001b3 % 2 ^ 64) 0xcbf29c
 abbrev pub shard : List ℕ → ℕ → ℕ
 shard key shards = fnv1a key % shards
 
--- Whether a pattern matches a key: one that ends in `.*` matches each key that begins with its text up to and including that point,
--- and any other matches the equal key alone.
+-- Whether a pattern matches a key: one that ends in `.*` matches each key that begins with what is before `*`, any other its equal.
 abbrev pub matches : List ℕ → List ℕ → Bool
 matches pattern key =
     if ends_with nat_eq pattern (46 ∷ 42 ∷ []) then starts_with nat_eq key (take (length pattern - 1) pattern) else bytes_eq key pattern

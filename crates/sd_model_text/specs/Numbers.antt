@@ -39,10 +39,6 @@ number_text (negsuc n) = 45 ∷ magnitude_text (suc n)
 pub data NumberFlaw : Type 0 where
   BadShape BadRange : NumberFlaw
 
--- whether a byte is `.`
-abbrev pub is_point : ℕ → Bool
-is_point b = b == 46
-
 -- ten to an exponent, as the numerator of a fraction
 abbrev pub raised : ℤ → ℕ
 raised (pos n) = 10 ^ n
@@ -104,7 +100,7 @@ exponent_of (mark ∷ text) = exponent_behind text
 -- the magnitude of what is before an exponent: digits with at most one point among, before or after them
 abbrev pub magnitude_by : List ℕ → Option ℤ → Result ℕ NumberFlaw
 magnitude_by text None = Err BadShape
-magnitude_by text (Some exponent) = magnitude_of_sides (before_first is_point text) (after_first is_point text) exponent
+magnitude_by text (Some exponent) = magnitude_of_sides (before_first (λ b. b == 46) text) (after_first (λ b. b == 46) text) exponent
 
 -- the magnitude of a number text without a sign: digits with at most one point, and then an exponent or nothing
 abbrev pub decimal_magnitude : List ℕ → Result ℕ NumberFlaw

@@ -7,8 +7,7 @@ use Rattle.std.proofs.lemmas.List.Sums.{sum_by-cons}
 use Rattle.std.proofs.lemmas.List.{length-map}
 use Rattle.std.proofs.lemmas.List.Elements.{recursion_from_All}
 use Rattle.sd_model_shard.specs.Shard.{Reply}
-use Rattle.sd_model_shard.specs.History.{Act, History, Legal, state_after}
-use Rattle.sd_model_shard.specs.Whereabouts.{summed_by}
+use Rattle.sd_model_shard.specs.History.{Act, History, Legal, state_after, summed_by}
 use Rattle.sd_model_serve.specs.Receiving.{acts_by}
 use Rattle.sd_shard.specs.declared.shard.ShardBook.{ShardBook}
 use Rattle.sd_turn.specs.Lists.{total, span}

@@ -3,7 +3,7 @@ use Rattle.std.proofs.Common.{◌≡◌, ℕ, ◌+◌, ◌≤◌, Bool, true, fa
 use Rattle.std.proofs.Math.Seq.{drop-append_seam}
 use Rattle.std.proofs.lemmas.Bool.{eqb-true}
 use Rattle.sd_model_text.specs.Names.{Kind, rank, matches}
-use Rattle.sd_model_shard.specs.Rows.{RowId, Kept, DumpRow, dump_row, dump_of, is_hit, is_of_kind, in_key_order, keys_of, rows_taken_out}
+use Rattle.sd_model_shard.specs.Rows.{RowId, Kept, DumpRow, dump_of, is_hit, is_of_kind, in_key_order, keys_of, rows_taken_out}
 use Rattle.sd_model_shard.specs.Shard as model
 use Rattle.sd_model_shard.specs.Shard.{deletion_of}
 use Rattle.sd_model_shard.proofs.ReportedLemmas.{reported_in_any_order}
@@ -14,6 +14,7 @@ use Rattle.sd_shard.specs.Dump.{DumpList, rows_of}
 use Rattle.sd_shard.specs.Shard.{state_of, Appends, IsDeletion}
 use Rattle.sd_pool.specs.Behind.{Behind, setup_of}
 use Rattle.sd_pool.specs.Asks.{beyond, gone_of, shown_of, KeysGoOn, RowsGoOn}
+use Rattle.sd_model_shard.proofs.Short.{dump_row}
 
 -- what was appended
 module _ {A : Type 0} where

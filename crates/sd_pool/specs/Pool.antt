@@ -2,10 +2,9 @@
 use Rattle.std.specs.Prelude.{◌≡◌, ◌≢◌, ℕ, ◌+◌, ◌<◌, ◌≤◌, false, List, [], ◌∷◌, ◌++◌, length, map, get_or, vec_capacity, sum_by, Any}
 use Rattle.std.specs.List.{AllByRecursion}
 use Rattle.sd_model_shard.specs.Shard.{Limits, Policy, Event, Reply}
-use Rattle.sd_model_shard.specs.History.{Act, History, Legal, state_after}
+use Rattle.sd_model_shard.specs.History.{Act, History, Legal, state_after, summed_by}
 use Rattle.sd_model_serve.specs.Receiving.{acts_by}
 use Rattle.sd_shard.specs.declared.shard.ShardBook.{ShardBook}
-use Rattle.sd_model_shard.specs.Whereabouts.{summed_by}
 use Rattle.sd_turn.specs.declared.turn.Turn.{Turn}
 use Rattle.sd_turn.specs.declared.turn_seat.TurnSeat.{TurnSeat}
 use Rattle.sd_turn.specs.Turn.{opened_with, seen, own}

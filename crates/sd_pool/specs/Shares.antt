@@ -1,7 +1,7 @@
 -- A seat's shares of a shard's numbers: what the replies to its own acts add up to.
 use Rattle.std.specs.Prelude.{◌≡◌, ℕ, ◌+◌, min, sum_by, List}
 use Rattle.sd_model_shard.specs.Shard.{Reply, last_number}
-use Rattle.sd_model_shard.specs.Whereabouts.{dropped_in, summed_by}
+use Rattle.sd_model_shard.specs.History.{dropped_in, summed_by}
 use Rattle.sd_law_shard.specs.Sums.{taken_in, flushed_in, deleted_in}
 use Rattle.sd_shard.specs.declared.shard.ShardBook.{ShardBook}
 use Rattle.sd_pool.specs.Pool.{own_at}

@@ -5,8 +5,7 @@ use Rattle.std.specs.List.{AllZip}
 use Rattle.std.proofs.lemmas.List.Concat.{flat_map-append}
 use Rattle.sd_model_outside.specs.Outside.{Object}
 use Rattle.sd_model_settings.specs.Settings.{Settings}
-use Rattle.sd_model_serve.specs.Doors.{Visit}
-use Rattle.sd_model_serve.specs.Sessions.{Dialogue, lines_in}
+use Rattle.sd_model_serve.specs.Sessions.{Visit, Dialogue, lines_in}
 use Rattle.sd_model_live.specs.Port.{IsPortVisit, PortExchange, line_events, port_talk}
 use Rattle.sd_model_proxy.specs.Relays as model
 use Rattle.sd_outside.specs.declared.door.DoorEnd.{DoorEnd}

@@ -10,7 +10,7 @@ use Rattle.std.proofs.lemmas.List.Sums.{sum_by-append, sum_by-cons}
 use Rattle.sd_model_outside.specs.Outside.{Object}
 use Rattle.sd_model_record.specs.Desk.{counted}
 use Rattle.sd_model_settings.specs.Entries.{Node}
-use Rattle.sd_model_proxy.specs.Routes.{Batch, Batched, add_totals, batches, lines_not_sent, lines_sent, no_totals, over_nodes, totals_by, relay_counts, Bad, Read, Route, To, Unowned, goes_to, is_bad, is_unowned, route}
+use Rattle.sd_model_proxy.specs.Routes.{Batch, Batched, add_totals, batches, no_totals, over_nodes, totals_by, relay_counts, Bad, Read, Route, To, Unowned, goes_to, is_bad, is_unowned, route}
 use Rattle.sd_model_proxy.proofs.SendLemmas.{AreForwarded-next, AreForwarded-none, AreForwarded-only, behind, only, only-elsewhere, only-here}
 use Rattle.sd_model_proxy.proofs.TotalLemmas.{add_totals-next, over-only}
 use Rattle.sd_model_record.specs.Totals.{Total}
@@ -21,7 +21,7 @@ use Rattle.sd_proxy.specs.Waiting.{Holds, batches_behind, under_way}
 use Rattle.sd_proxy_desk.specs.declared.totals.ProxyTotals.{ProxyTotals}
 use Rattle.sd_proxy.proofs.WaitingLemmas.{steady}
 use Rattle.sd_proxy.specs.declared.waiting.Waiting.{Waiting}
-use Rattle.sd_model_proxy.proofs.Short.{long_in, routes_of, AreForwarded, lines_to}
+use Rattle.sd_model_proxy.proofs.Short.{long_in, routes_of, AreForwarded, lines_to, lines_sent, lines_not_sent}
 
 -- a number with none more
 and_none : (n : ℕ) → n + 0 ≡ n

@@ -6,10 +6,10 @@ use Rattle.sd_model_outside.specs.Outside.{HasFailed, Object}
 use Rattle.sd_outside.specs.Turns.{raised, GivesSession, HasLeft, turned}
 use Rattle.sd_model_record.specs.Totals.{Total}
 use Rattle.sd_model_settings.specs.Entries.{Node}
-use Rattle.sd_model_serve.specs.Doors.{Visit}
+use Rattle.sd_model_serve.specs.Sessions.{Visit}
 use Rattle.sd_model_stream.specs.Streams.{AtEnd, StreamLine, EndsStream, Failed, IsStreamOf, Stream, StreamEnd, LimitReached, ends_by_failure}
 use Rattle.sd_model_proxy.specs.Routes.{add_totals, no_totals}
-use Rattle.sd_model_proxy.specs.Relays.{EndsServing, IsReadOfLines, lines_ended}
+use Rattle.sd_model_proxy.specs.Relays.{EndsServing, lines_ended}
 use Rattle.sd_model_live.specs.Port.{CountsRead}
 use Rattle.sd_outside.specs.declared.door.DoorEnd.{DoorEnd}
 use Rattle.sd_proxy_desk.specs.Ends.{door_end_view}
@@ -22,7 +22,7 @@ use Rattle.sd_proxy.specs.Streaming.{SendsStream, SendsStreams}
 use Rattle.sd_proxy.specs.declared.lined.Lined.{Lined}
 use Rattle.sd_proxy.proofs.LookedLemmas.{SendsByLooks-next, SendsByLooks-none, zip_append}
 use Rattle.sd_model_serve.proofs.Short.{IsFaultOf}
-use Rattle.sd_model_proxy.proofs.Short.{lines_by_read}
+use Rattle.sd_model_proxy.proofs.Short.{lines_by_read, IsReadOfLines}
 
 -- a turn of a door that had taken few
 pub one_turn : (old new first n : ℕ) → new ≡ raised old → old ≡ first + n → first < 2 ^ 62 → n < 2 ^ 62 → new ≡ first + (n + 1)

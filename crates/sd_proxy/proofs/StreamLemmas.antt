@@ -15,7 +15,7 @@ use Rattle.sd_tcp.specs.Cutting.{Cutting, HasCut, nothing_cut}
 use Rattle.sd_tcp.proofs.CutLemmas.{HasCut-none, all_given}
 use Rattle.sd_model_stream.proofs.StreamLemmas.{concat-push}
 use Rattle.sd_model_proxy.specs.Routes.{add_totals, no_totals, Read}
-use Rattle.sd_model_proxy.specs.Relays.{IsReadOfLines, lines_ended}
+use Rattle.sd_model_proxy.specs.Relays.{lines_ended}
 use Rattle.sd_outside.proofs.ReadLemmas.{reads_on}
 use Rattle.sd_proxy.specs.Looking.{PassSeen, SendsByLooks}
 use Rattle.sd_proxy.specs.Streaming.{CannotRead, SendsRead, SendsStream, cuts_read}
@@ -23,6 +23,7 @@ use Rattle.sd_proxy_desk.specs.Views.{totals_view}
 use Rattle.sd_proxy_desk.specs.declared.totals.ProxyTotals.{ProxyTotals}
 use Rattle.sd_proxy.proofs.LookedLemmas.{SendsByLooks-next, SendsByLooks-none}
 use Rattle.sd_proxy.proofs.RelayLemmas.{zip_push}
+use Rattle.sd_model_proxy.proofs.Short.{IsReadOfLines}
 
 -- the lines that a read ended, where these were read before it
 abbrev ended_by : (before bytes : List ℕ) → List StreamLine

@@ -11,7 +11,7 @@ use Rattle.sd_model_outside.specs.Outside.{Object}
 use Rattle.sd_model_outside.specs.Uses.{HasSent, AfterSends, WireSend}
 use Rattle.sd_model_record.specs.Desk.{counted}
 use Rattle.sd_model_record.specs.Totals.{Total, number_in}
-use Rattle.sd_model_proxy.specs.Routes.{Batch, add_totals, batches, batches_from, joined, lines_not_sent, lines_sent, send_of}
+use Rattle.sd_model_proxy.specs.Routes.{Batch, add_totals, batches, batches_from, joined}
 use Rattle.sd_model_proxy.proofs.TotalLemmas.{add-twice}
 use Rattle.sd_proxy_desk.specs.Views.{totals_view}
 use Rattle.sd_proxy.specs.Sending.{Sends, totals_of_batches}
@@ -19,7 +19,7 @@ use Rattle.sd_proxy.specs.Waiting.{Holds, batches_behind, closed, under_way}
 use Rattle.sd_proxy_desk.specs.declared.totals.ProxyTotals.{ProxyTotals}
 use Rattle.sd_proxy.specs.declared.waiting.Waiting.{Waiting}
 use Rattle.sd_model_shard.specs.Shard.{last_number}
-use Rattle.sd_model_proxy.proofs.Short.{fits}
+use Rattle.sd_model_proxy.proofs.Short.{fits, lines_sent, lines_not_sent, send_of}
 
 -- lines, and one more
 pub closed-more : (lines : List (List ℕ)) (last : List ℕ) → closed (lines ++ last ∷ []) ≡ closed lines ++ (last ++ 10 ∷ [])

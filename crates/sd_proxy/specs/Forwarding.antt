@@ -3,7 +3,7 @@ use Rattle.std.specs.Prelude.{◌≡◌, ℕ, ◌+◌, ◌<◌, ◌≤◌, List,
 use Rattle.sd_model_outside.specs.Outside.{Object}
 use Rattle.sd_model_settings.specs.Entries.{Node}
 use Rattle.sd_model_text.specs.Lines.{lines}
-use Rattle.sd_model_proxy.specs.Routes.{AreBatched, Batched, add_totals, batches, totals_by, relay_counts, Read, Route, goes_to, route, send_of}
+use Rattle.sd_model_proxy.specs.Routes.{AreBatched, Batched, add_totals, batches, totals_by, relay_counts, Read, Route, goes_to, route, joined}
 use Rattle.sd_model_record.specs.Totals.{Total}
 use Rattle.sd_proxy.specs.Waiting.{Holds, batches_behind, under_way}
 use Rattle.sd_proxy.specs.declared.waiting.Waiting.{Waiting}
@@ -22,7 +22,7 @@ pub record Forwards (most : ℕ) (nodes : List Node) (packets : ℕ) (reads : Li
     (totals totals_now : List Total) : Type 0 where
   pub batched : Batched
   pub are : AreBatched most nodes reads batched
-  pub sends : AfterSendsOn (λ place. map send_of (batched place)) wires wires_now
+  pub sends : AfterSendsOn (λ place. map (λ b. record { packet = joined b.lines; is_failed = b.is_failed }) (batched place)) wires wires_now
   pub counted : totals_now ≡ add_totals totals (relay_counts nodes packets reads batched)
 
 -- the lines of these that go to the node in a place
@@ -37,7 +37,7 @@ pub record Stands (says : ℕ → List (List (List ℕ)) → List (List ℕ) →
   pub begun : ℕ → List (List ℕ)
   pub are : (place : ℕ) → says place (map (λ b. b.lines) (sent place)) (begun place)
   pub holds : (place : ℕ) (d : Waiting) → place < length waiting → Holds most (begun place) (get_or waiting place d)
-  pub sends : AfterSendsOn (λ place. map send_of (sent place)) first wires
+  pub sends : AfterSendsOn (λ place. map (λ b. record { packet = joined b.lines; is_failed = b.is_failed }) (sent place)) first wires
   pub counted : totals_now ≡ add_totals totals (totals_by nodes packets long routes sent)
 
 -- where lines go

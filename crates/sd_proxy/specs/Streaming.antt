@@ -4,10 +4,10 @@ use Rattle.std.specs.List.{AllZip}
 use Rattle.sd_model_outside.specs.Outside.{HasFailed, HasRead, IsAtEnd, Object}
 use Rattle.sd_model_record.specs.Totals.{Total}
 use Rattle.sd_model_settings.specs.Entries.{Node}
-use Rattle.sd_model_serve.specs.Doors.{ServesDoor, Visit}
-use Rattle.sd_model_stream.specs.Streams.{AreStreamsOf, StreamLine, ReadsStream, Stream}
+use Rattle.sd_model_serve.specs.Sessions.{ServesDoor, Visit}
+use Rattle.sd_model_stream.specs.Streams.{StreamLine, ReadsStream, Stream, IsStreamOf}
 use Rattle.sd_tcp.specs.Cutting.{Cutting, CutsOn}
-use Rattle.sd_model_proxy.specs.Relays.{IsReadOfLines, is_long, lines_ended, lines_of_cut}
+use Rattle.sd_model_proxy.specs.Relays.{is_long, lines_ended, lines_of_cut}
 use Rattle.sd_model_proxy.specs.Routes.{Read}
 use Rattle.sd_proxy.specs.Forwarding.{Forwards, TakesLines}
 use Rattle.sd_proxy.specs.Looking.{PassSeen, SendsByLooks}
@@ -57,7 +57,7 @@ pub record SendsStream (most : ℕ) (nodes : List Node) (own own_now : PassSeen)
   pub stream : Stream
   pub went : ReadsStream stream source source_now
   pub reads : List Read
-  pub are : AllZip IsReadOfLines (lines_ended [] stream.reads) reads
+  pub are : AllZip (λ cuts r. (r.lines ≡ flat_map lines_of_cut cuts) × (r.long ≡ count_by is_long cuts)) (lines_ended [] stream.reads) reads
   pub sends : SendsByLooks most nodes own own_now reads wires wires_now totals
 
 -- The sessions of a door were read as streams, one after another, and given back, and the lines that each read ended were sent by one
@@ -68,7 +68,7 @@ pub record SendsStreams (most : ℕ) (nodes : List Node) (own own_now : PassSeen
   pub failures : ℕ
   pub streams : List Stream
   pub served : ServesDoor visits failures door door_now
-  pub went : AreStreamsOf visits streams
+  pub went : AllZip IsStreamOf visits streams
   pub reads : List Read
-  pub are : AllZip IsReadOfLines (flat_map (λ s. lines_ended [] s.reads) streams) reads
+  pub are : AllZip (λ cuts r. (r.lines ≡ flat_map lines_of_cut cuts) × (r.long ≡ count_by is_long cuts)) (flat_map (λ s. lines_ended [] s.reads) streams) reads
   pub sends : SendsByLooks most nodes own own_now reads wires wires_now totals

@@ -4,8 +4,7 @@ use Rattle.std.specs.Prelude.{sum_by}
 use Rattle.std.specs.List.{AllByRecursion, AllZip}
 use Rattle.std.proofs.lemmas.List.Sums.{sum_by-cons}
 use Rattle.sd_model_text.specs.Lines.{pieces, bad_of}
-use Rattle.sd_model_shard.specs.History.{History}
-use Rattle.sd_model_shard.specs.Whereabouts.{dropped_in}
+use Rattle.sd_model_shard.specs.History.{History, dropped_in}
 use Rattle.std.proofs.lemmas.Grind.{flat_map-append}
 use Rattle.sd_model_record.specs.DeskHistory.{DeskCall, DeskEvent, Add, Look, Done}
 use Rattle.sd_model_record.specs.Totals.{Among, IsKeeperCall}

@@ -3,10 +3,10 @@ use Rattle.std.proofs.Common.{◌≡◌, ℕ, ◌+◌, sym, subst, arith}
 use Rattle.std.specs.Prelude.{min}
 use Rattle.sd_model_record.specs.Record.{Tally}
 use Rattle.sd_model_record.specs.Desk.{add_tally, no_tally}
-use Rattle.sd_model_record.specs.Totals.{Count, TotalPackets, TotalLines, TotalBad, TotalDropped, TakenPackets, TakenLines, TakenBad, TakenDropped, RoundsMade, GraphiteFaults, ConsoleFaults, RepeaterFaults, AdminFaults, Amounts}
 use Rattle.sd_shared_desk.specs.Counts.{Part, HasCounted, plus, of_tally, of_sends}
 use Rattle.sd_shared_desk.proofs.CountLemmas.{counted_next, nothing_counted}
 use Rattle.sd_model_shard.specs.Shard.{last_number}
+use Rattle.sd_desk.specs.Sums.{Count, Amounts, TotalPackets, TotalLines, TotalBad, TotalDropped, TakenPackets, TakenLines, TakenBad, TakenDropped, RoundsMade, GraphiteFaults, ConsoleFaults, RepeaterFaults, AdminFaults}
 
 -- amounts that are the same, up to the last count
 pub record AreAlike (a b : Amounts) : Type 0 where

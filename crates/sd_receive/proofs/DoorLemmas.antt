@@ -4,11 +4,10 @@ use Rattle.std.proofs.lemmas.List.Sums.{sum_by-cons}
 use Rattle.sd_model_shard.specs.History.{History}
 use Rattle.sd_model_record.specs.Record.{Tally}
 use Rattle.sd_model_record.specs.Desk.{add_tally, no_tally}
-use Rattle.sd_model_record.specs.Totals.{Amounts, Count}
 use Rattle.sd_shared_desk.specs.Counts.{Part, HasCounted, nothing, of_tally, plus}
 use Rattle.sd_model_record.specs.DeskHistory.{DeskCall}
-use Rattle.sd_model_serve.specs.Doors.{Visit}
-use Rattle.sd_model_stream.specs.Streams.{CountsReads, StreamLine, stream_lines, AreStreamsOf, Stream, any_reached_limit, bytes_in, stream_is_reached_limit, lines_in}
+use Rattle.sd_model_serve.specs.Sessions.{Visit}
+use Rattle.sd_model_stream.specs.Streams.{CountsReads, StreamLine, stream_lines, Stream, any_reached_limit, bytes_in, stream_is_reached_limit, lines_in}
 use Rattle.sd_receive.specs.Streamed.{FilesLines}
 use Rattle.sd_desk.specs.Tally.{tally_of}
 use Rattle.sd_door.specs.DoorKeeper.{Visited}
@@ -20,7 +19,8 @@ use Rattle.sd_receive.proofs.CalledLemmas.{reads_next, reads_none}
 use Rattle.sd_receive.proofs.CountedLemmas.{AreAlike, counted_as}
 use Rattle.sd_receive.proofs.LineLemmas.{FilesLines-none, FilesLines-next}
 use Rattle.sd_receive.proofs.StreamLemmas.{both_tallies, no_lines}
-use Rattle.sd_model_stream.proofs.Short.{reads_in}
+use Rattle.sd_model_stream.proofs.Short.{reads_in, AreStreamsOf}
+use Rattle.sd_desk.specs.Sums.{Count, Amounts}
 
 -- a tally has these amounts, up to the last count
 abbrev pub Has : Amounts → Tally → Type 0

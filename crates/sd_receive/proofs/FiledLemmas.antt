@@ -4,8 +4,7 @@ use Rattle.std.specs.Prelude.{flat_map, sum_by}
 use Rattle.std.proofs.lemmas.Grind.{flat_map-append}
 use Rattle.std.proofs.lemmas.List.Sums.{sum_by-append, sum_by-cons}
 use Rattle.sd_model_text.specs.Lines.{Sample, pieces, samples_of, bad_of}
-use Rattle.sd_model_shard.specs.History.{History}
-use Rattle.sd_model_shard.specs.Whereabouts.{dropped_in}
+use Rattle.sd_model_shard.specs.History.{History, dropped_in}
 use Rattle.sd_law_shard.specs.Sums.{taken_in}
 use Rattle.sd_model_record.specs.Record.{Tally}
 use Rattle.sd_model_record.specs.Desk.{add_tally, no_tally, counted}

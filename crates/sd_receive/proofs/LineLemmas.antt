@@ -5,8 +5,7 @@ use Rattle.std.specs.Result.{is_err}
 use Rattle.std.proofs.lemmas.Grind.{flat_map-append}
 use Rattle.std.proofs.lemmas.List.Sums.{count_by-le-length, sum_by-append, sum_by-cons}
 use Rattle.sd_model_text.specs.Lines.{Sample, bad_of, pieces, reading, samples_of}
-use Rattle.sd_model_shard.specs.History.{History}
-use Rattle.sd_model_shard.specs.Whereabouts.{dropped_in}
+use Rattle.sd_model_shard.specs.History.{History, dropped_in}
 use Rattle.sd_law_shard.specs.Sums.{taken_in}
 use Rattle.sd_model_record.specs.Record.{Tally}
 use Rattle.sd_model_record.specs.Desk.{add_tally, counted, no_tally}

@@ -15,7 +15,7 @@ use Rattle.sd_shared_desk.proofs.CountLemmas.{counted_next}
 use Rattle.sd_shared_desk.proofs.DeskLemmas.{called_as, called_next}
 use Rattle.sd_model_record.proofs.WireLemmas.{AreRepeated-next, AreRepeated-none}
 use Rattle.sd_repeater.proofs.SentLemmas.{AreRepeated-one, length-sent}
-use Rattle.sd_model_serve.specs.Receiving.{most_turns, CountsDatagrams, failed_sends}
+use Rattle.sd_model_serve.specs.Receiving.{most_turns, CountsDatagrams}
 use Rattle.sd_receive.specs.Received.{HasReceived}
 use Rattle.sd_outside.specs.declared.datagrams.Ended.{Ended}
 use Rattle.sd_outside.specs.declared.datagrams.Ended.TheVariants.{End, Failed, Stopped, Worn}
@@ -23,6 +23,7 @@ use Rattle.sd_receive.specs.Receiving.{EndsSo, TakesDatagram}
 use Rattle.sd_receive.proofs.CalledLemmas.{counts_next, counts_none}
 use Rattle.sd_receive.proofs.FiledLemmas.{HasFiled-none, FilesDatagrams-next}
 use Rattle.sd_receive.proofs.CountedLemmas.{counted_as, merged, no_counts}
+use Rattle.sd_model_serve.proofs.Short.{failed_sends}
 
 -- datagrams that were given one list after the other
 given_next : (xs ys : List (List ℕ)) (old mid new : Content) → old ≡ with_datagrams xs mid → mid ≡ with_datagrams ys new → old ≡ with_datagrams (xs ++ ys) new

@@ -9,7 +9,6 @@ use Rattle.sd_model_outside.proofs.OutsideLemmas.{Reads-nil}
 use Rattle.sd_model_shard.specs.History.{History}
 use Rattle.sd_model_record.specs.Record.{Tally}
 use Rattle.sd_model_record.specs.Desk.{add_tally, counted, no_tally}
-use Rattle.sd_model_record.specs.Totals.{Count}
 use Rattle.sd_shared_desk.specs.Counts.{Part, HasCalled, HasCounted, nothing, plus, of_sends, of_tally}
 use Rattle.sd_shared_desk.proofs.CountLemmas.{counted_next, counted_none}
 use Rattle.sd_shared_desk.proofs.DeskLemmas.{called_next, called_none}
@@ -26,6 +25,7 @@ use Rattle.sd_receive.specs.declared.streamed.StreamEnd.TheVariants.{End, Failed
 use Rattle.sd_receive.proofs.CalledLemmas.{reads_next, reads_none}
 use Rattle.sd_receive.proofs.CountedLemmas.{AreAlike, counted_as, merged, no_counts}
 use Rattle.sd_receive.proofs.LineLemmas.{FilesLines-none, FilesLines-next}
+use Rattle.sd_desk.specs.Sums.{Count}
 
 -- nothing is of no send, and of no tally
 no_sends : (c : Count) → of_sends 0 c ≡ 0

@@ -2,12 +2,11 @@
 use Rattle.std.specs.Prelude.{◌≡◌, ℕ, ◌+◌, ◌<◌, true, false, ◌||◌, List, length}
 use Rattle.sd_model_outside.specs.Outside.{Object}
 use Rattle.sd_model_shard.specs.History.{History}
-use Rattle.sd_model_record.specs.Totals.{Amounts}
 use Rattle.sd_shared_desk.specs.Counts.{Part, of_tally}
 use Rattle.sd_model_record.specs.DeskHistory.{DeskCall}
 use Rattle.sd_model_record.specs.Desk.{add_tally, counted, no_tally}
 use Rattle.sd_model_record.specs.Record.{Tally}
-use Rattle.sd_model_serve.specs.Doors.{Visit}
+use Rattle.sd_model_serve.specs.Sessions.{Visit}
 use Rattle.sd_model_serve.specs.Receiving.{most_turns}
 use Rattle.sd_model_stream.specs.Streams.{CountsReads, stream_lines, IsStreamOf, Stream, any_reached_limit, bytes_in, stream_is_reached_limit}
 use Rattle.sd_receive.specs.Streamed.{FilesLines, ServesStreams}
@@ -19,6 +18,7 @@ use Rattle.sd_pool.specs.Pool.{IsSeatOf, own_at, shards_of, who_is}
 use Rattle.sd_door.specs.DoorKeeper.{EndsAfter}
 use Rattle.sd_receive.specs.declared.line_visitor.LineVisitor.{LineVisitor}
 use Rattle.sd_receive.specs.declared.line_reading.Lined.{Lined}
+use Rattle.sd_desk.specs.Sums.{Amounts}
 
 -- it has a seat of the pool, and room to read into
 pub record CanVisit (pool : Pool) (visitor : LineVisitor) : Type 0 where

@@ -2,13 +2,12 @@
 use Rattle.std.specs.Prelude.{◌≡◌, ℕ, ◌+◌, min, List, length, flat_map, sum_by, ◌≤◌}
 use Rattle.sd_model_text.specs.Lines.{Sample, samples_of, pieces, bad_of}
 use Rattle.sd_model_outside.specs.Outside.{Object}
-use Rattle.sd_model_shard.specs.History.{History}
-use Rattle.sd_model_shard.specs.Whereabouts.{dropped_in, summed_by}
+use Rattle.sd_model_shard.specs.History.{History, dropped_in, summed_by}
 use Rattle.sd_law_shard.specs.Sums.{taken_in}
 use Rattle.sd_model_record.specs.Record.{Tally}
 use Rattle.sd_shared_desk.specs.Counts.{Part, HasCalled, HasCounted, plus, of_tally, of_sends}
-use Rattle.sd_model_outside.specs.Uses.{Sending}
-use Rattle.sd_model_serve.specs.Receiving.{CountsDatagrams, PassesOn, asks, events_of, failed_sends, tally_of, summed_in}
+use Rattle.sd_model_outside.specs.Uses.{Sending, failures}
+use Rattle.sd_model_serve.specs.Receiving.{CountsDatagrams, PassesOn, asks, events_of, tally_of, summed_in}
 use Rattle.sd_pool.specs.Adding.{Adds}
 use Rattle.sd_model_shard.specs.Shard.{last_number}
 
@@ -35,5 +34,5 @@ pub record HasReceived (says : ℕ → Type 0) (shards turns : ℕ) (source sour
   pub sendings : List Sending
   pub passed : PassesOn read sendings source source_now wires wires_now
   pub filed : FilesDatagrams shards read own own_now tally taken
-  pub counted : HasCounted (plus (of_tally tally) (of_sends (failed_sends sendings))) part part_now
+  pub counted : HasCounted (plus (of_tally tally) (of_sends (sum_by (λ s. failures s.failed) sendings))) part part_now
   pub called : HasCalled (CountsDatagrams says read) part part_now

@@ -3,7 +3,6 @@ use Rattle.std.specs.Prelude.{◌≡◌, ℕ, ◌+◌, min, Bool, List, [], ◌�
 use Rattle.sd_model_outside.specs.Outside.{Object, last_count}
 use Rattle.sd_repeater.specs.Sent.{AreSent}
 use Rattle.sd_model_shard.specs.History.{History}
-use Rattle.sd_model_record.specs.Totals.{RoundsMade}
 use Rattle.sd_shared_desk.specs.Counts.{Part, HasCalled, HasCounted, plus, of_tally, of_sends}
 use Rattle.sd_model_record.specs.DeskHistory.{DeskCall, RepeaterFaults}
 use Rattle.sd_model_record.specs.Record.{Tally}
@@ -15,6 +14,7 @@ use Rattle.sd_desk.specs.Tally.{tally_of}
 use Rattle.sd_outside.specs.declared.datagrams.Ended.{Ended}
 use Rattle.sd_outside.specs.declared.datagrams.Ended.TheVariants.{End, Failed, Stopped, Worn}
 use Rattle.sd_receive.specs.declared.received.Received.{Received}
+use Rattle.sd_desk.specs.Sums.{RoundsMade}
 
 -- a call counts sends that failed
 abbrev pub IsFailedSend : DeskCall → Type 0

@@ -4,9 +4,10 @@ use Rattle.sd_model_outside.specs.Outside.{Object}
 use Rattle.sd_model_shard.specs.History.{History}
 use Rattle.sd_model_record.specs.Record.{Tally}
 use Rattle.sd_shared_desk.specs.Counts.{Part, HasCalled, HasCounted, plus, of_tally, of_sessions}
-use Rattle.sd_model_serve.specs.Doors.{Visit, ServesDoor, faults_among}
+use Rattle.sd_model_serve.specs.Sessions.{Visit, ServesDoor, faults_among}
 use Rattle.sd_receive.specs.Received.{HasFiled}
-use Rattle.sd_model_stream.specs.Streams.{AreStreamsOf, CountsReads, StreamLine, ReadsStream, Stream, bad_of_line, bytes_in, lines_in, pieces_of_line, samples_of_line, stream_lines}
+use Rattle.sd_model_stream.specs.Streams.{CountsReads, StreamLine, ReadsStream, Stream, bad_of_line, bytes_in, lines_in, pieces_of_line, samples_of_line, stream_lines, IsStreamOf}
+use Rattle.std.specs.List.{AllZip}
 
 -- The samples of lines were submitted as those of datagrams are, and counted, but no packet was.
 abbrev pub FilesLines : ℕ → List StreamLine → (ℕ → History) → (ℕ → History) → Tally → ℕ → Type 0
@@ -26,7 +27,7 @@ pub record ServesStreams (says : ℕ → Type 0) (shards : ℕ) (streams : List 
   pub visits : List Visit
   pub failures : ℕ
   pub served : ServesDoor visits failures door door_now
-  pub went : AreStreamsOf visits streams
+  pub went : AllZip IsStreamOf visits streams
   pub filed : FilesLines shards (lines_in streams) own own_now tally taken
   pub counted : HasCounted (plus (of_tally tally) (of_sessions (failures + faults_among visits))) part part_now
   pub called : HasCalled (CountsReads says (sum_by (λ s. length s.reads) streams)) part part_now

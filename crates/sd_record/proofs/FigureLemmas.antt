@@ -3,9 +3,9 @@ use Rattle.std.proofs.Common.{◌≡◌, ℕ, zero, suc, ◌+◌, ◌-◌, ◌*�
 use Rattle.std.proofs.lemmas.List.{length-map}
 use Rattle.std.proofs.lemmas.Option.{slice_get-map, slice_get-get_or}
 use Rattle.sd_model_shard.specs.Values.{PartStatistics, WholeStatistics}
-use Rattle.sd_model_record.specs.Record.{TimerFigures, part_figures, whole_figures, bin_figure, figures_of}
+use Rattle.sd_model_record.specs.Record.{TimerFigures, part_figures, whole_figures, figures_of}
 use Rattle.sd_model_text.proofs.Places.{get_prefix, get_behind}
-use Rattle.sd_model_record.proofs.Short.{figures_with, idle_figures}
+use Rattle.sd_model_record.proofs.Short.{figures_with, idle_figures, bin_figure}
 
 -- the figures of a timer without samples
 pub figures-idle : (t : TimerFigures) → t.whole ≡ None → figures_of t ≡ idle_figures t

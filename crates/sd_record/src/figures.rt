@@ -1,7 +1,7 @@
 ghost use Rattle.std.specs.Prelude.{◌≡◌, ◌<◌, ◌≤◌, ◌++◌, length, slice_get, option_map, Some, codes, if◌then◌else◌, ◌∷◌, []};
-ghost use Rattle.sd_model_settings.specs.Entries.{UpperPercent, LowerPercent, CountPs, Count};
+ghost use Rattle.sd_model_settings.specs.Entries.{UpperPercent, LowerPercent, CountPs, Count, Histogram};
 ghost use Rattle.sd_model_shard.specs.Values.{is_upper};
-ghost use Rattle.sd_model_record.specs.Record.{figure, whole_number, part_figures, whole_figures, bin_figure, figures_of, label};
+ghost use Rattle.sd_model_record.specs.Record.{figure, whole_number, part_figures, whole_figures, figures_of, label, bin_name};
 ghost use Rattle.sd_plan.specs.Calculated.{class_of};
 ghost use Rattle.sd_stats.specs.Timer.{part_of, whole_of};
 ghost use Rattle.sd_record.specs.Row.{bin_view, timer_view};
@@ -119,7 +119,7 @@ fn edge_figure(part: &PctStats) -> FigureParts
 
 /// The figure of a bin, which has the name of its upper limit.
 fn bin_figure(bin: &Bin) -> FigureParts
-    ensures { result ≡ bin_figure (bin_view bin.now) }
+    ensures { result ≡ figure Histogram (bin_name (bin_view bin.now).below) (whole_number (bin_view bin.now).count) }
 {
     let count = whole_number(bin.count);
     match bin.below {

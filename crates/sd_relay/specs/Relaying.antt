@@ -1,7 +1,7 @@
 -- What a run of a proxy leaves.
 use Rattle.std.specs.Prelude.{◌≡◌, ℕ, ◌^◌, min, List, ◌++◌, length, map, Option, Some, None, option_to_list, count_by}
 use Rattle.sd_model_settings.specs.Settings.{Settings}
-use Rattle.sd_model_proxy.specs.Relays.{Relay, relays_totals}
+use Rattle.sd_model_proxy.specs.Relays.{Relay, relay_totals}
 use Rattle.sd_model_live.specs.Proxy.{Check, ProxyObjects, ProxyTheorem, answers_of}
 use Rattle.sd_outside.specs.declared.datagrams.Ended.{Ended}
 use Rattle.sd_outside.specs.declared.datagrams.Ended.TheVariants.{End}
@@ -13,6 +13,7 @@ use Rattle.sd_relay.specs.declared.post.Post.{Post}
 use Rattle.sd_relay.specs.declared.relaying.Relayed.{Relayed}
 use Rattle.sd_relay.specs.declared.room.RelayRoom.{RelayRoom}
 use Rattle.std.specs.Option.{is_none}
+use Rattle.sd_model_proxy.specs.Routes.{sums_of_totals}
 
 -- how a receiver ended, if there was one
 abbrev pub ended_by : Option Proxied → Ended
@@ -42,6 +43,6 @@ pub record HasRelayed (s : Settings) (receivers lines : ℕ) (o o_now : ProxyObj
   pub count : length relays ≡ receivers
   pub one : length line_relays ≡ lines
   pub received : map end_view r.received.items ≡ map (λ x. x.ended) relays
-  pub sums : sums_view r.sums ≡ relays_totals s.lists.nodes (relays ++ line_relays)
+  pub sums : sums_view r.sums ≡ sums_of_totals (map (relay_totals s.lists.nodes) (relays ++ line_relays))
   pub checked : r.checked.checks ≡ length checks
   pub faults : r.checked.probe_faults ≡ min (count_by is_none (answers_of checks)) (2 ^ 63)

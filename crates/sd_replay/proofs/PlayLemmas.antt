@@ -17,14 +17,13 @@ use Rattle.sd_model_shard.specs.Shard.{State, empty_state, Policy, Submit, after
 use Rattle.sd_model_shard.specs.Rows.{Rows, Kept, row_cmp}
 use Rattle.sd_model_shard.proofs.RowLemmas.{rows_total, rows_exact}
 use Rattle.sd_model_shard.proofs.SummaryLemmas.{get-kept_rows}
-use Rattle.sd_model_shard.specs.History.{after_all, answered, part_of}
-use Rattle.sd_model_shard.specs.Whereabouts.{dropped_in}
-use Rattle.sd_model_record.specs.Desk.{Desk, Marks, new_desk, with_tally, with_repeater_faults}
+use Rattle.sd_model_shard.specs.History.{after_all, answered, part_of, dropped_in}
+use Rattle.sd_model_record.specs.Desk.{Desk, Marks, new_desk}
 use Rattle.sd_model_record.specs.Record.{Record, record_of}
 use Rattle.sd_model_record.specs.Admin as admin
 use Rattle.sd_command.proofs.CommandLemmas.{idle_line, state_past}
 use Rattle.sd_model_settings.specs.Settings.{Settings, plan_of, names_of}
-use Rattle.sd_model_replay.specs.Replay.{Bounds, bounds_of, is_used, targets_of, Played, IsOutcome, no_marks, home_of, replies_to, states_after, packet_tally, moment_of, desk_after_line, Run, first_run, form_of, play, run_of, deliveries, sendings}
+use Rattle.sd_model_replay.specs.Replay.{Bounds, bounds_of, is_used, targets_of, Played, IsOutcome, no_marks, home_of, replies_to, states_after, moment_of, desk_after_line, Run, first_run, form_of, play, run_of, deliveries}
 use Rattle.sd_model_record.specs.Backends.{Backend, mark_of, text_of}
 use Rattle.sd_model_replay.specs.Script.{ScriptCommand, Packet, Flush, Admin, end_word, spelled, script_text, IsLegal, ScriptFlaw, Faulty, Begins, IsUndecided}
 use Rattle.sd_model_serve.specs.Rounds.{Round, round_text}
@@ -38,8 +37,9 @@ use Rattle.sd_model_record.proofs.WireLemmas.{AreRepeated-next, AreRepeated-none
 use Rattle.sd_model_replay.proofs.ReplayLemmas.{run_before, run_of-push, output_of-push, deliveries-push, delivery_of, sendings-push, script_text-end, AllByRecursion-push}
 use Rattle.sd_shards.specs.Shards.{Group, AreAlike, group_bounds, numbers, state_at}
 use Rattle.sd_replay.specs.Totals.{totals_of_group}
-use Rattle.sd_model_replay.proofs.Short.{text_length}
+use Rattle.sd_model_replay.proofs.Short.{text_length, packet_tally, sendings}
 use Rattle.sd_model_record.proofs.Short.{with_round}
+use Rattle.sd_desk.specs.Steps.{with_tally, with_repeater_faults}
 
 -- the records that were executed
 abbrev commands_of : List Played → List ScriptCommand

@@ -2,8 +2,8 @@
 use Rattle.sd_model_replay.specs.Script.{BadWord, BadLength, CutShort}
 use Rattle.sd_model_replay.specs.AccountingTheorem.{End, Complete, Faulted, ReadFailed, WriteFailed, LimitReached}
 use Rattle.sd_totals.specs.Totals.{totals_view}
-use Rattle.sd_replay.specs.declared.fault.ScriptFault.{ScriptFault}
-use Rattle.sd_replay.specs.declared.fault.ScriptFault.TheVariants.{Word, Length, Truncated}
+use Rattle.sd_script.specs.declared.fault.ScriptFault.{ScriptFault}
+use Rattle.sd_script.specs.declared.fault.ScriptFault.TheVariants.{Word, Length, Truncated}
 use Rattle.sd_replay.specs.declared.run.ReplayEnd.{ReplayEnd}
 use Rattle.sd_replay.specs.declared.run.ReplayEnd.TheVariants.{Ok, Script, ReadFault, WriteFault, Worn}
 

@@ -1,7 +1,6 @@
 pub mod Ends
 pub mod Room
 pub mod RoomInside
-pub mod Seen
 pub mod Sent
 pub mod Start
 pub mod Totals

@@ -3,8 +3,9 @@ use Rattle.std.specs.Prelude.{◌≡◌, ℕ, Bool, List}
 use Rattle.sd_model_outside.specs.Outside.{Object}
 use Rattle.sd_repeater.specs.Sent.{AreSent}
 use Rattle.sd_model_record.specs.Record.{Tally}
-use Rattle.sd_model_record.specs.Desk.{Desk, with_tally, with_repeater_faults}
+use Rattle.sd_model_record.specs.Desk.{Desk}
 use Rattle.sd_model_outside.specs.Uses.{failures}
+use Rattle.sd_desk.specs.Steps.{with_tally, with_repeater_faults}
 
 -- The packet was sent on each wire, the desk counted it with this tally at this moment, and then the sends that failed.
 pub record IsPlayed (packet : List ℕ) (tally : Tally) (moment : ℕ) (old new : List Object) (desk_before desk : Desk) : Type 0 where

@@ -7,7 +7,7 @@ ghost use Rattle.sd_plan.specs.Plan.{plan_view};
 ghost use Rattle.sd_desk.specs.Marks.{mark_of, marks_of};
 ghost use Rattle.sd_shards.specs.Shards.{AreAlike, numbers, state_at};
 ghost use Rattle.sd_replay.specs.Room.{HasRoom};
-ghost use Rattle.sd_model_record.specs.Desk.{marked, taken};
+ghost use Rattle.sd_desk.specs.Steps.{taken, marked};
 
 use sd_delivery::deliver;
 use sd_desk::{Desk, RoundMarks};

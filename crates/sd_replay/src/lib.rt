@@ -9,6 +9,5 @@ mod flush;
 mod room;
 mod run;
 
-pub use fault::ScriptFault;
 pub use room::ReplayRoom;
 pub use run::{ReplayEnd, replay};

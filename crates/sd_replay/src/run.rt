@@ -1,22 +1,23 @@
 ghost use Rattle.std.specs.Prelude.{◌≡◌, ◌≢◌, ◌≤◌, ◌<◌, ◌^◌, ℕ, length, map, sum_by, OnErr, IfOk};
 ghost use Rattle.sd_model_outside.specs.Outside.{HasFailedBehind, given};
-ghost use Rattle.sd_model_shard.specs.Whereabouts.{dropped_in};
+ghost use Rattle.sd_model_shard.specs.History.{dropped_in};
 ghost use Rattle.sd_model_record.specs.Desk.{new_desk};
-ghost use Rattle.sd_model_replay.specs.Replay.{targets_of, is_used, packet_tally, replies_to, states_after};
+ghost use Rattle.sd_model_replay.specs.Replay.{targets_of, is_used, replies_to, states_after};
 ghost use Rattle.sd_model_replay.specs.Script.{Packet};
 ghost use Rattle.sd_model_record.specs.Totals.{totals_text};
 ghost use Rattle.sd_replay.specs.Replayed.{Replayed};
 ghost use Rattle.sd_shards.specs.Shards.{AreAlike, group_bounds, state_at};
 ghost use Rattle.sd_replay.specs.Ends.{end_of};
 ghost use Rattle.sd_replay.specs.Room.{sizing_of};
-ghost use Rattle.sd_replay.specs.Seen.{seen_of};
+ghost use Rattle.sd_run.specs.Seen.{seen_of};
 ghost use Rattle.sd_replay.specs.Start.{start_in};
 ghost use Rattle.sd_replay.specs.Sent.{IsPlayed};
 ghost use Rattle.sd_replay.specs.Totals.{totals_of_group};
 ghost use Rattle.sd_totals.specs.Totals.{totals_view};
 ghost use Rattle.sd_model_record.specs.Backends.{Graphite, Console};
+ghost use Rattle.sd_model_text.specs.Lines.{pieces, bad_of};
 
-use crate::fault::{ScriptFault, fault_at};
+use crate::fault::fault_at;
 use crate::flush::flush;
 use crate::room::ReplayRoom;
 use sd_command::execute;
@@ -27,7 +28,7 @@ use sd_outside::{Backend, Backs, Sink, Source, Wire, WriteFault};
 use sd_plan::Names;
 use sd_repeater::repeat;
 use sd_run::targets_of;
-use sd_script::Item;
+use sd_script::{Item, ScriptFault};
 use sd_shards::Shards;
 use sd_totals::{Totals, write_totals};
 
@@ -70,7 +71,7 @@ fn play_packet<L: Wire>(
     ensures states { (i : ℕ) → i < length shards.old.states
         → state_at shards.new i ≡ states_after (group_bounds shards.old) (state_at shards.old) (Packet who moment datagram.now) i }
     ensures played { IsPlayed datagram.now
-        (packet_tally datagram.now (sum_by dropped_in (replies_to (group_bounds shards.old) (state_at shards.old) (Packet who moment datagram.now))))
+        (record { packets = 1; lines = length (pieces datagram.now); bad = bad_of datagram.now; dropped = (sum_by dropped_in (replies_to (group_bounds shards.old) (state_at shards.old) (Packet who moment datagram.now))) })
         moment (map L.seen wires.old) (map L.seen wires.new) desk.old desk.new }
     ensures alike { AreAlike shards.old shards.new }
 {

@@ -5,10 +5,11 @@ use Rattle.std.proofs.lemmas.List.{take_at, take-append-le, take-append-drop, dr
 use Rattle.sd_model_text.specs.Lists.{Lacks}
 use Rattle.sd_model_text.proofs.Cuts.{same_cut, at_cut}
 use Rattle.sd_model_outside.specs.Outside.{Content, Left}
-use Rattle.sd_model_replay.specs.Script.{Head, PacketHead, FlushHead, AdminHead, EndHead, Body, head_line, body_of, IsForm, Packet, Flush, Admin, spelled, BadWord, BadLength, CutShort, Next, Executed, Ending, Faulty, IsPartOfLine, HasNoForm, HasBody, IsPart, IsWrong, IsUndecided, Begins}
+use Rattle.sd_model_replay.specs.Script.{Head, PacketHead, FlushHead, AdminHead, EndHead, Body, head_line, body_of, IsForm, Packet, Flush, Admin, spelled, BadWord, BadLength, CutShort, Next, Executed, Ending, Faulty, HasNoForm, HasBody, IsWrong, IsUndecided, Begins}
+use Rattle.sd_script.specs.Flaws.{IsPartOfLine}
 use Rattle.sd_script.specs.Next.{IsWhole, next_text}
 use Rattle.sd_model_replay.proofs.LineLemmas.{Lacks-line, length-line, same_prefix, uncut, newline_soon, longer}
-use Rattle.sd_model_replay.proofs.Short.{HasNoLine, IsOver, IsMisfit}
+use Rattle.sd_model_replay.proofs.Short.{HasNoLine, IsOver, IsMisfit, IsPart}
 
 -- what stands next by a body, where this does if it is whole
 abbrev pub BodyNext : Body → Next → List ℕ → Next → Type 0

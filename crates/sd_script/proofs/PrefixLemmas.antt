@@ -5,7 +5,7 @@ use Rattle.std.proofs.lemmas.Option.{MatchOption-at_some}
 use Rattle.std.proofs.lemmas.List.{get_or-take, take-append-drop, drop_more, drop-append-le}
 use Rattle.sd_model_outside.specs.Outside.{Content, IsAtEnd}
 use Rattle.sd_model_replay.specs.Script as model
-use Rattle.sd_model_replay.specs.Script.{Body, head_line, body_of, IsForm, ScriptFlaw, BadWord, BadLength, CutShort, HasBody, IsPart, IsWrong, IsUndecided, HasFlaw}
+use Rattle.sd_model_replay.specs.Script.{Body, head_line, body_of, IsForm, ScriptFlaw, BadWord, BadLength, CutShort, HasBody, IsWrong, IsUndecided, HasFlaw}
 use Rattle.sd_model_replay.proofs.LineLemmas.{inside_cut, longer}
 use Rattle.sd_script.specs.Ahead.{Grows}
 use Rattle.sd_script.specs.Fields.{Lacks, IsFirstPlace}
@@ -13,7 +13,7 @@ use Rattle.sd_script.specs.Flaws.{HasLineFlaw, HasBodyFlaw}
 use Rattle.sd_script.specs.Found.{BeginsWithLine}
 use Rattle.sd_script.specs.Head.{head_of, IsLineOf}
 use Rattle.sd_script.specs.declared.head.Head.{Head}
-use Rattle.sd_model_replay.proofs.Short.{IsOver}
+use Rattle.sd_model_replay.proofs.Short.{IsOver, IsPart}
 
 -- bytes that are cut at their first newline
 pub record Line (held : List ℕ) (end : ℕ) : Type 0 where

@@ -39,7 +39,7 @@ impl Ahead {
     ghost use Rattle.sd_model_outside.specs.Outside.{Rose, IsAtEnd, Used, put_back};
     ghost use Rattle.sd_script.specs.Fields.{Lacks, IsFirstPlace};
     ghost use Rattle.sd_script.specs.Ahead.{held_in, Grows, GrowsBy};
-    ghost use Rattle.sd_model_replay.specs.Script.{IsPartOfLine};
+    ghost use Rattle.sd_script.specs.Flaws.{IsPartOfLine};
 
     /// Takes the room, which holds no bytes yet.
     ///

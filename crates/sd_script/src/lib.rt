@@ -5,11 +5,13 @@
 #![tactic(auto)]
 
 mod ahead;
+mod fault;
 mod fields;
 mod flaw;
 mod head;
 mod reader;
 mod record;
 
+pub use fault::ScriptFault;
 pub use flaw::Flaw;
 pub use reader::{Item, Reader};

@@ -1,7 +1,7 @@
 ghost use Rattle.std.specs.Prelude.{◌≡◌, ◌<◌, ◌≤◌, drop, length, slice_index, take, IsTrue, MatchBool, MatchOption, IfOk, OnOk, OnErr, ◌≢◌, ◌⊎◌};
 ghost use Rattle.sd_model_text.specs.Lists.{Lacks};
 ghost use Rattle.sd_model_outside.specs.Outside.{Rose, Used, put_back};
-ghost use Rattle.sd_model_replay.specs.Script.{IsPart, IsUndecided};
+ghost use Rattle.sd_model_replay.specs.Script.{IsUndecided};
 ghost use Rattle.sd_script.specs.Next.{IsWhole};
 ghost use Rattle.sd_script.specs.Ahead.{held_in, Grows};
 ghost use Rattle.sd_script.specs.Flaws.{flaw_of, HasBodyFlaw, HasLineFlaw};
@@ -46,7 +46,7 @@ fn body_flaw<R: Source>(
     requires most { body.most ≤ LONGEST }
     ensures flaw { IfOk result (λ flaw. MatchOption flaw (IsWhole (body_view body) (drop from (held_in ahead.new)))
         (λ f. HasBodyFlaw (body_view body) (drop from (held_in ahead.new)) (R.seen script.new).content (flaw_of f))) }
-    ensures asked { OnErr result (IsPart (body_view body) (drop from (held_in ahead.new))) }
+    ensures asked { OnErr result (((body_view body).len ≤ (body_view body).most) × (length (drop from (held_in ahead.new)) ≤ (body_view body).len)) }
     ensures grows { Grows (held_in ahead.old) (held_in ahead.new) }
     ensures left_stays { put_back (held_in ahead.new) (R.seen script.new).content
         ≡ put_back (held_in ahead.old) (R.seen script.old).content }

@@ -7,13 +7,11 @@ use Rattle.std.proofs.lemmas.Cmp.{nat_eq_equiv}
 use Rattle.sd_model_text.specs.Names.{shard}
 use Rattle.sd_model_text.specs.Lines.{Sample}
 use Rattle.sd_model_shard.specs.Shard.{Limits, Policy, State, Cause, Event, Submit, Swap, Delete, Dump, Look, Table, step, admitted, refusal, empty_state}
-use Rattle.sd_model_shard.specs.History.{Act, History, LegalFrom, after, part_of}
-use Rattle.sd_model_shard.specs.Whereabouts.{tables, table_in}
-use Rattle.sd_model_serve.specs.Receiving.{flusher, administrator, acts_by, events_of, asks}
+use Rattle.sd_model_shard.specs.History.{Act, History, LegalFrom, after, part_of, tables, table_in}
+use Rattle.sd_model_serve.specs.Receiving.{flusher, administrator, acts_by, events_of, asks, Broadcast, events_in, acts_in}
 use Rattle.sd_model_serve.specs.Rounds.{Round, swaps_at, Ran}
 use Rattle.sd_pool.specs.Adding.{JoinsAs}
 use Rattle.sd_session.specs.Commands.{AreCommands, IsCommand}
-use Rattle.sd_model_serve.specs.Sessions.{Broadcast, acts_in, events_in}
 use Rattle.sd_model_serve.proofs.ServedLemmas.{events_of_acts}
 use Rattle.sd_model_serve.proofs.Short.{events_by}
 

@@ -1,26 +1,29 @@
 -- What a run counts, as its receivers, its rounds and its sessions add up.
 use Rattle.std.proofs.Common.{◌≡◌, ℕ, ◌+◌, Bool, true, false, List, [], ◌∷◌, length, flat_map, refl, ap, ◌∙◌, arith, length-append}
-use Rattle.std.specs.Prelude.{min, sum_by, ◌==◌, if◌then◌else◌}
+use Rattle.std.specs.Prelude.{min, slice_index, sum_by, ◌==◌, if◌then◌else◌}
 use Rattle.std.proofs.lemmas.List.Sums.{sum_by-cons, sum_by-append}
 use Rattle.sd_model_text.specs.Lines.{pieces, bad_of}
 use Rattle.sd_model_outside.specs.Uses.{fault_of}
 use Rattle.sd_model_shard.specs.Shard.{Limits, Policy, State, Event, Submit, Swap, Delete, Dump, Look, step, last_number}
-use Rattle.sd_model_shard.specs.History.{Act, History, LegalFrom, after}
-use Rattle.sd_model_shard.specs.Whereabouts.{dropped_in, summed_by}
+use Rattle.sd_model_shard.specs.History.{Act, History, LegalFrom, after, dropped_in, summed_by}
 use Rattle.sd_model_record.specs.Backends.{Graphite, Console, mark_of}
-use Rattle.sd_model_record.specs.Totals.{Count, TotalPackets, TotalLines, TotalBad, TotalDropped, TakenPackets, TakenLines, TakenBad, TakenDropped, RoundsMade, GraphiteFaults, ConsoleFaults, RepeaterFaults, Amounts}
 use Rattle.sd_shared_desk.specs.Counts.{Part, HasCounted, plus, share, of_tally, of_sends, of_sessions}
 use Rattle.sd_shared_desk.proofs.CountLemmas.{nothing_counted}
-use Rattle.sd_model_serve.specs.Receiving.{acts_by, events_of, summed_in, failed_sends, tally_of, ReceiverTrace}
-use Rattle.sd_model_serve.specs.Doors.{faults_among}
+use Rattle.sd_model_serve.specs.Receiving.{acts_by, events_of, summed_in, tally_of, ReceiverTrace}
+use Rattle.sd_model_serve.specs.Sessions.{faults_among}
 use Rattle.sd_model_serve.specs.Rounds.{RecordForm, Round, swaps_at}
 use Rattle.sd_flush.specs.Made.{of_round, of_rounds}
 use Rattle.sd_session.specs.Commands.{AreCommands}
 use Rattle.sd_model_stream.specs.Streams.{bad_of_line, pieces_of_line, lines_in, LineTrace}
-use Rattle.sd_model_run.specs.Run.{ServerTrace, counts_of, rounds_in}
+use Rattle.sd_model_run.specs.Run.{ServerTrace, counts_in, rounds_in}
 use Rattle.sd_model_run.proofs.CountedLemmas.{sum_by-alike, sum_by-nothing}
 use Rattle.sd_model_stream.proofs.Short.{faults_in_lines}
-use Rattle.sd_model_serve.proofs.Short.{events_by}
+use Rattle.sd_model_serve.proofs.Short.{events_by, failed_sends}
+use Rattle.sd_desk.specs.Sums.{Count, Amounts, TotalPackets, TotalLines, TotalBad, TotalDropped, TakenPackets, TakenLines, TakenBad, TakenDropped, RoundsMade, GraphiteFaults, ConsoleFaults, RepeaterFaults, place}
+
+-- what a run counts of a number
+abbrev pub counts_of : ℕ → ServerTrace → Amounts
+counts_of shards c = λ count. slice_index (counts_in shards c) (place count)
 
 -- one of each is as many as there are
 pub sum_by-ones : {X : Type 0} (f : X → ℕ) (xs : List X) → ((x : X) → f x ≡ 1) → sum_by f xs ≡ length xs

@@ -4,8 +4,7 @@ use Rattle.std.specs.Prelude.{Option, Some, None, min, option_to_list, sum_by}
 use Rattle.std.specs.List.{AllByRecursion}
 use Rattle.std.proofs.lemmas.List.Sums.{sum_by-cons}
 use Rattle.sd_model_outside.specs.Outside.{Object}
-use Rattle.sd_model_shard.specs.Whereabouts.{dropped_in, summed_by}
-use Rattle.sd_model_record.specs.Totals.{Count, RoundsMade}
+use Rattle.sd_model_shard.specs.History.{dropped_in, summed_by}
 use Rattle.sd_shared_desk.specs.Counts.{Part, HasCounted, plus, share, of_sessions, of_tally}
 use Rattle.sd_model_record.specs.Record.{Tally}
 use Rattle.sd_shared_desk.proofs.CountLemmas.{nothing_counted}
@@ -29,6 +28,7 @@ use Rattle.sd_serve.specs.Serving.{door_end_of}
 use Rattle.sd_serve.specs.declared.line_post.LinePost.{LinePost}
 use Rattle.sd_model_stream.proofs.Short.{brought_in_lines, faults_in_lines}
 use Rattle.sd_model_shard.specs.Shard.{last_number}
+use Rattle.sd_desk.specs.Sums.{Count, RoundsMade}
 
 -- the end of the keeping of a door, as the definitions have it
 pub keeper_as : (asked : ℕ) (end : DoorEnd) (door_now : Object) (part : Part) (turned : ℕ) → EndsAfter asked end door_now part turned → EndsKeeper asked (door_end_of end) door_now (part.seen RoundsMade) turned

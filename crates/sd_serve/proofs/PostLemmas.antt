@@ -5,12 +5,11 @@ use Rattle.std.specs.List.{AllByRecursion}
 use Rattle.std.proofs.lemmas.List.Sums.{sum_by-cons}
 use Rattle.sd_model_outside.specs.Outside.{Object}
 use Rattle.sd_model_text.specs.Lines.{Sample, pieces, bad_of}
-use Rattle.sd_model_shard.specs.Whereabouts.{dropped_in, summed_by}
-use Rattle.sd_model_record.specs.Totals.{Count, RoundsMade}
+use Rattle.sd_model_shard.specs.History.{dropped_in, summed_by}
 use Rattle.sd_shared_desk.specs.Counts.{Part, HasCounted, plus, share, of_calls, of_tally, of_sends}
 use Rattle.sd_model_record.specs.DeskHistory.{DeskCall}
 use Rattle.sd_model_record.specs.Record.{Tally}
-use Rattle.sd_model_serve.specs.Receiving.{asks, events_of, summed_in, failed_sends, tally_of, ReceiverTrace, EndsReceiver}
+use Rattle.sd_model_serve.specs.Receiving.{asks, events_of, summed_in, tally_of, ReceiverTrace, EndsReceiver}
 use Rattle.sd_model_run.specs.Run.{IsReceiverTrace}
 use Rattle.sd_model_run.proofs.CountedLemmas.{sum_by-range}
 use Rattle.sd_serve.proofs.CountedLemmas.{exact_share, none_received, one_by, received_by, received_next}
@@ -30,7 +29,8 @@ use Rattle.sd_serve.specs.Services.{AreNew}
 use Rattle.sd_serve.specs.Serving.{end_of}
 use Rattle.sd_model_run.proofs.Short.{AreReceiverTraces}
 use Rattle.sd_model_shard.specs.Shard.{last_number}
-use Rattle.sd_model_serve.proofs.Short.{brought_by}
+use Rattle.sd_model_serve.proofs.Short.{brought_by, failed_sends}
+use Rattle.sd_desk.specs.Sums.{Count, RoundsMade}
 
 -- the end of a receiver, as the definitions have it
 ends_as : (asked : ℕ) (ended : Ended) (source source_now : Object) (part : Part) (turned : ℕ) → EndsSo asked ended source source_now part turned → EndsReceiver asked (end_of ended) source source_now (part.seen RoundsMade) turned

@@ -1,7 +1,8 @@
 -- A run of the server, put together from what its workers tell, and the closing of its pool and its desk.
 use Rattle.std.proofs.Common.{◌≡◌, ◌⊎◌, ℕ, ◌+◌, ◌<◌, ◌≤◌, Option, List, [], ◌∷◌, ◌++◌, length, map, flat_map, get_or, inl, inr, refl, sym, ap, subst, ◌∙◌, arith, length-append, append_assoc}
-use Rattle.std.specs.Prelude.{Some, min, option_to_list, slice_get, sum_by}
+use Rattle.std.specs.Prelude.{Some, max, min, option_to_list, slice_get, sum_by}
 use Rattle.std.specs.List.{AllByRecursion, range_with_len}
+use Rattle.std.specs.Option.{option_map_or}
 use Rattle.std.proofs.lemmas.Bool.{cases_lt}
 use Rattle.std.proofs.lemmas.List.{length-map, map-append}
 use Rattle.std.proofs.lemmas.List.Elements.{recursion_from_All}
@@ -12,27 +13,25 @@ use Rattle.sd_model_outside.specs.Outside.{Object}
 use Rattle.sd_model_outside.proofs.DeliveryLemmas.{AfterDeliveries-push}
 use Rattle.sd_model_settings.specs.Settings.{Names}
 use Rattle.sd_model_settings.specs.Settings as file
-use Rattle.sd_model_shard.specs.History.{History, state_after}
+use Rattle.sd_model_shard.specs.History.{History, state_after, dropped_in, summed_by}
 use Rattle.sd_model_shard.specs.Shard.{empty_state, last_number}
-use Rattle.sd_model_shard.specs.Whereabouts.{dropped_in, summed_by}
 use Rattle.sd_model_record.specs.Backends.{Backend, mark_of}
-use Rattle.sd_model_serve.specs.Receiving.{CountsDatagrams, administrator, events_of, summed_in, EndsFlusher}
+use Rattle.sd_model_serve.specs.Receiving.{CountsDatagrams, administrator, events_of, summed_in, EndsFlusher, events_in, acts_in}
 use Rattle.sd_pool.specs.Adding.{Adds, JoinsAs}
-use Rattle.sd_model_record.specs.Totals.{Among, IsKeeperCall, Count, RoundsMade, TotalPackets, TotalLines, TotalBad, TotalDropped, TakenPackets, TakenLines, TakenBad, TakenDropped, number_of}
+use Rattle.sd_model_record.specs.Totals.{Among, IsKeeperCall, numbers_in}
 use Rattle.sd_shared_desk.specs.Counts.{share, HasCounted}
 use Rattle.sd_model_record.specs.Desk.{IsBalanced, Marks}
 use Rattle.sd_model_record.specs.DeskHistory.{DeskCall, calls_by, desk_after}
 use Rattle.sd_model_serve.specs.Rounds.{RecordForm, Round, round_calls, round_deliveries, round_text, swaps_at, Ran}
 use Rattle.sd_flush.specs.Made.{of_rounds}
 use Rattle.sd_session.specs.Commands.{AreCommands}
-use Rattle.sd_model_serve.specs.Sessions.{acts_in, events_in}
-use Rattle.sd_model_serve.specs.Doors.{asked_by, called_in}
+use Rattle.sd_model_serve.specs.Sessions.{asked_by, called_in}
 use Rattle.sd_model_serve.proofs.ServedLemmas.{events_of_acts}
 use Rattle.sd_serve.proofs.CallerLemmas.{ran_by_callers}
-use Rattle.sd_model_run.specs.Run.{ServerTrace, RunSettings, brought_in, counts_of, HasOneDesk, IsRun, Objects, later}
+use Rattle.sd_model_run.specs.Run.{ServerTrace, RunSettings, brought_in, counts_in, HasOneDesk, IsRun, Objects}
 use Rattle.sd_model_stream.specs.Streams.{CountsReads, LineTrace}
 use Rattle.sd_model_run.proofs.CountedLemmas.{sum_by-across, sum_by-range}
-use Rattle.sd_serve.proofs.CountedLemmas.{counts_add_up, no_drops, swaps_drop_nothing}
+use Rattle.sd_serve.proofs.CountedLemmas.{counts_add_up, counts_of, no_drops, swaps_drop_nothing}
 use Rattle.sd_serve.proofs.RunLemmas.{run_accounted}
 use Rattle.sd_outside.specs.declared.datagrams.Ended.{Ended}
 use Rattle.sd_outside.specs.declared.datagrams.Ended.TheVariants as ended
@@ -76,6 +75,7 @@ use Rattle.sd_model_run.proofs.Short.{AreReceiverTraces, any_buffers}
 use Rattle.sd_model_stream.proofs.Short.{brought_in_lines, reads_in}
 use Rattle.sd_model_serve.proofs.Short.{events_by, brought_by}
 use Rattle.sd_model_record.proofs.Short.{IsDeskHistory}
+use Rattle.sd_desk.specs.Sums.{Count, number_of, TotalPackets, TotalLines, TotalBad, TotalDropped, TakenPackets, TakenLines, TakenBad, TakenDropped, RoundsMade, GraphiteFaults, ConsoleFaults, RepeaterFaults, AdminFaults}
 
 -- the end of the flusher, as the definitions have it
 flusher_as : (asked : ℕ) (end : Ended) (beat beat_now : Object) (made : ℕ) → EndsSo asked end beat beat_now made → EndsFlusher asked (end_of end) beat beat_now made
@@ -129,7 +129,7 @@ module _ {D L P B E S G C : Type 0} (see : Sights D L P B E S) (shared : Shared 
     pub marks : Marks
     pub waiting : List (List (Option Row))
     pub last : MakesRoundAt form (uses old.objects.backs.now) ts marks (own_at new.services.flusher.seat) (own_at post.seat) (part_of new.services.flusher.own) (part_of post.own) (back_of see.back new.objects.backs.now) (back_of see.back backs) waiting
-    pub reported_so : (now : ℕ) × says now × (ts ≡ later result.ends.flusher.last now)
+    pub reported_so : (now : ℕ) × says now × (ts ≡ option_map_or (λ second. max second now) result.ends.flusher.last now)
     pub lists : SeatLists
     pub crew : IsCrew pool desk lists (with_flusher post new.services) new.posts
     pub closed : IsClosed pool desk (all_seats (with_flusher post new.services) new.posts) (all_owns (with_flusher post new.services) new.posts) result.books.items result.desk
@@ -331,6 +331,11 @@ module _ {D L P B E S G C : Type 0} (see : Sights D L P B E S) (shared : Shared 
         let whole = counts_add_up form trace drops lines_read all_drops c in
         omega (arith, sums, both, submitted, first, second, receivers, line, by_flusher, by_keeper, no_part, no_admin, whole)
 
+    all_counted : numbers_in t.result.desk ≡ map (λ n. min n last_number) (counts_in (shards_of pool) trace)
+    all_counted = λ i.
+        counted TotalPackets i ∷ counted TotalLines i ∷ counted TotalBad i ∷ counted TotalDropped i ∷ counted TakenPackets i ∷ counted TakenLines i ∷ counted TakenBad i
+        ∷ counted TakenDropped i ∷ counted RoundsMade i ∷ counted GraphiteFaults i ∷ counted ConsoleFaults i ∷ counted RepeaterFaults i ∷ counted AdminFaults i ∷ []
+
     balanced : IsBalanced t.result.desk
     balanced =
         let conserved = t.closed.conserved in
@@ -417,7 +422,7 @@ module _ {D L P B E S G C : Type 0} (see : Sights D L P B E S) (shared : Shared 
         same = t.flushes.same;
         ends = flusher_as asked t.result.ends.flusher.ended (see.beat t.old.objects.beat.now) (see.beat t.new.objects.beat.now) (length t.flushes.rounds) t.flushes.ends;
       };
-      last = (t.reported_so.0, t.reported_so.1, t.last.second ∙ t.reported_so.2 ∙ ap (λ (o : Option ℕ). later o t.reported_so.0) t.flushes.last);
+      last = (t.reported_so.0, t.reported_so.1, t.last.second ∙ t.reported_so.2 ∙ ap (λ (o : Option ℕ). option_map_or (λ second. max second t.reported_so.0) o t.reported_so.0) t.flushes.last);
       used = t.flushes.fits;
       used_last = t.last.made.used;
       through_outlets = t.flushes.through_outlets;
@@ -433,7 +438,7 @@ module _ {D L P B E S G C : Type 0} (see : Sights D L P B E S) (shared : Shared 
       };
       lines_read = is_line_trace says pool desk asked t.result.desk.facts.rounds sizing.streams line_old line_now t.result.ends.line_reader stream_door stream_door_now t.did.lines t.keepers (each_of Sees (λ o. (part_of o).seen RoundsMade ≤ t.result.desk.facts.rounds) (line_owns line_now) line_sees (λ o h. h RoundsMade));
       started = subst says (sym t.closed.start) t.start;
-      counted = counted;
+      counted = all_counted;
       balanced = balanced;
       called = one_desk;
     }

@@ -10,8 +10,7 @@ use Rattle.sd_model_shard.specs.History.{History}
 use Rattle.sd_model_record.specs.Backends.{Backend, Graphite, Console, mark_of}
 use Rattle.sd_shared_desk.specs.Counts.{Part}
 use Rattle.sd_model_record.specs.Desk.{Marks}
-use Rattle.sd_model_serve.specs.Rounds.{RecordForm, MarksFit, Round, round_deliveries, round_text}
-use Rattle.sd_model_run.specs.Outlets.{AreChosen, IsOutletTrace, OutletTrace, OutletRoom, chosen}
+use Rattle.sd_model_serve.specs.Rounds.{RecordForm, MarksFit, Round, round_deliveries, round_text, OutletRoom, AreChosen, chosen, OutletTrace, IsOutletTrace}
 use Rattle.sd_outlet.specs.declared.feed.Feed.{Feed}
 use Rattle.sd_outlet.specs.declared.outlet.Outlet.{Outlet}
 use Rattle.sd_outlet.specs.declared.worked.Worked.{Worked}

@@ -1,7 +1,6 @@
 -- What an outlet's room was opened for, and what is done with its ends.
 use Rattle.std.specs.Prelude.{◌≡◌, ℕ, Bool, true, false, [], Option, Some, None, ⊤}
 use Rattle.sd_model_record.specs.Backends.{Backend, Graphite, Console}
-use Rattle.sd_model_run.specs.Outlets.{OutletRoom}
 use Rattle.sd_outlet.specs.declared.drain.Drain.{Drain}
 use Rattle.sd_outlet.specs.declared.feed.Feed.{Feed}
 use Rattle.sd_outlet.specs.declared.outlet.Outlet.{Outlet}
@@ -11,6 +10,7 @@ use Rattle.sd_flush.specs.declared.outs.Lead.{Lead}
 use Rattle.sd_serve.specs.declared.out_room.OutRoom.{OutRoom}
 use Rattle.sd_serve.specs.declared.out_room.OutRooms.{OutRooms}
 use Rattle.sd_serve.specs.declared.workers_out.OutletDrain.{OutletDrain}
+use Rattle.sd_model_serve.specs.Rounds.{OutletRoom}
 
 -- the outlet
 abbrev pub outlet_in : OutRoom → Outlet

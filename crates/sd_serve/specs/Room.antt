@@ -4,7 +4,6 @@ use Rattle.std.specs.List.{AllByRecursion}
 use Rattle.sd_model_shard.specs.Shard as model
 use Rattle.sd_model_serve.specs.Receiving.{administrator, flusher}
 use Rattle.sd_model_record.specs.Desk.{new_desk}
-use Rattle.sd_model_run.specs.Outlets.{OutletRoom}
 use Rattle.sd_epoch.specs.Limits.{AreLimits, limits_of as limits_seen}
 use Rattle.sd_shard.specs.Policy.{policy_of as policy_seen}
 use Rattle.sd_turn.specs.Lists.{span}
@@ -20,6 +19,7 @@ use Rattle.sd_serve.specs.declared.room.Benches.{Benches}
 use Rattle.sd_serve.specs.declared.room.Postings.{Postings}
 use Rattle.sd_serve.specs.declared.room.ServerRoom.{ServerRoom}
 use Rattle.sd_serve.specs.declared.room.Sizes.{Sizes}
+use Rattle.sd_model_serve.specs.Rounds.{OutletRoom}
 
 -- How many shards, receivers, and wires of each receiver there are, whether lines of streams are read, how many buffers each outlet
 -- has, none where there are no outlets, and how many bytes each buffer, and what goes by each shard.

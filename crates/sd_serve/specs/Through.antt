@@ -1,5 +1,5 @@
 -- What the flusher left, whether its texts went straight to the backends or through outlets.
-use Rattle.std.specs.Prelude.{◌≡◌, ℕ, ◌+◌, Bool, true, false, List, ◌++◌, flat_map, length, map, min, Option, Some, None}
+use Rattle.std.specs.Prelude.{◌≡◌, ℕ, ◌+◌, ◌&&◌, not, Bool, true, false, List, ◌++◌, flat_map, length, map, min, Option, Some, None}
 use Rattle.std.specs.List.{AllByRecursion}
 use Rattle.sd_model_outside.specs.Uses.{AfterDeliveries, missed, with_ticks}
 use Rattle.sd_model_outside.specs.Outside.{Object, last_count}
@@ -7,9 +7,8 @@ use Rattle.sd_model_shard.specs.History.{History}
 use Rattle.sd_model_record.specs.Backends.{Backend, Graphite, Console}
 use Rattle.sd_shared_desk.specs.Counts.{Part, HasCounted}
 use Rattle.sd_pool.specs.Adding.{Adds}
-use Rattle.sd_model_serve.specs.Rounds.{RecordForm, MarksFit, Round, last_second, round_calls, round_deliveries, round_text, swaps_at}
+use Rattle.sd_model_serve.specs.Rounds.{RecordForm, MarksFit, Round, last_second, round_calls, round_deliveries, round_text, swaps_at, OutletRoom, OutletTrace, IsOutletTrace}
 use Rattle.sd_flush.specs.Made.{of_rounds}
-use Rattle.sd_model_run.specs.Outlets.{IsOutletTrace, OutletTrace, OutletRoom, has_outlet, uses_at_ticks}
 use Rattle.sd_flush.specs.Flushing.{EndsSo}
 use Rattle.sd_flush.specs.declared.flushed.Flushed.{Flushed}
 use Rattle.sd_outlet.specs.declared.worked.Worked.{Worked}
@@ -51,11 +50,11 @@ pub record AreCounted (counts : Option OutCounts) (outlet_traces : Backend → O
 pub record FlushesThrough (form : RecordForm) (used : Backend → Bool) (outlets : Bool) (room : OutletRoom) (run_flushes : ℕ) (own own_now : ℕ → History) (part part_now : Part) (back back_now : Backend → Object) (beat beat_now : Object) (flushed : Flushed) (counts : Option OutCounts) : Type 0 where
   pub rounds : List Round
   pub swapped : Adds form.shards (swaps_at rounds) own own_now
-  pub fits : AllByRecursion (MarksFit (uses_at_ticks outlets used)) rounds
+  pub fits : AllByRecursion (MarksFit (λ b. not outlets && used b)) rounds
   pub counted : HasCounted (of_rounds rounds) part part_now
   pub called : part_now.own ≡ part.own ++ flat_map round_calls rounds
   pub outlet_traces : Backend → OutletTrace
-  pub through_outlets : (b : Backend) → IsOutletTrace (has_outlet outlets used b) room (map (round_text form b) rounds) (outlet_traces b)
+  pub through_outlets : (b : Backend) → IsOutletTrace (outlets && used b) room (map (round_text form b) rounds) (outlet_traces b)
   pub has : has_counts counts ≡ outlets
   pub are_counted : AreCounted counts outlet_traces
   pub delivered : (b : Backend) → AfterDeliveries ((outlet_traces b).queued ++ round_deliveries form b rounds) (back b) (back_now b)

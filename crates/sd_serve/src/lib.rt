@@ -8,7 +8,6 @@
 
 mod crew;
 mod line_post;
-mod object_types;
 mod objects;
 mod out_room;
 mod post_rooms;
@@ -22,8 +21,7 @@ mod workers;
 mod workers_out;
 
 pub use line_post::{LinePost, LineRoom};
-pub use object_types::{ObjectTypes, ObjectTypesOf, ObjectsOf};
-pub use objects::ServerObjects;
+pub use objects::{ObjectsOf, ServerObjects};
 pub use out_room::{OutRoom, OutRooms};
 pub use room::{ServerRoom, Sizes};
 pub use run_settings::RunSettings;

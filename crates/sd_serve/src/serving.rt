@@ -1,12 +1,12 @@
 //! A server from its room to its books.
-ghost use Rattle.std.specs.Prelude.{◌≡◌, ◌*◌, ◌<◌, ◌≤◌, ◌^◌, false, length};
-ghost use Rattle.sd_model_run.specs.Run.{later};
+ghost use Rattle.std.specs.Prelude.{◌≡◌, ◌*◌, ◌<◌, ◌≤◌, ◌^◌, false, length, max};
+ghost use Rattle.std.specs.Option.{option_map_or};
 ghost use Rattle.sd_serve.specs.Room.{IsRoom, sizing_in, start_in};
 ghost use Rattle.sd_serve.specs.Serving.{HasServed, objects_of, run_settings_in};
 ghost use Rattle.sd_serve.specs.Workers.{StayObjects};
 
 use crate::crew::{Manned, close, man};
-use crate::object_types::{ObjectTypes, ObjectsOf};
+use crate::objects::ObjectsOf;
 use crate::room::ServerRoom;
 use crate::run_settings::RunSettings;
 use crate::workers::{Ends, run_all};
@@ -15,6 +15,7 @@ use log::Log;
 use sd_desk::Desk;
 use sd_flush::round;
 use sd_outside::{Clock, Ended};
+use sd_run::ObjectTypes;
 use sd_shard::Books;
 use sd_shared::Shared;
 use sd_workers::ends_in;
@@ -34,7 +35,7 @@ pub struct Served {
 
 // The second of the last round: now, or that of the round before it, where that is later.
 fn last_round_at(now: u64, before: Option<u64>) -> u64
-    ensures { result ≡ later before now }
+    ensures { result ≡ option_map_or (λ second. max second now) before now }
 {
     match before {
         Some(second) => second.max(now),

@@ -1,13 +1,13 @@
 ghost use Rattle.std.specs.Prelude.{Bool, IfSome};
-ghost use Rattle.sd_model_run.specs.Outlets.{OutletRoom};
 ghost use Rattle.sd_pool.specs.Pool.{own_at};
 ghost use Rattle.sd_shared_desk.specs.Shared.{part_of};
 ghost use Rattle.sd_flush.specs.Flushing.{Flushes, back_of, form_of, uses};
 ghost use Rattle.sd_serve.specs.OutRoom.{AreOutRooms, HasOutRooms};
 ghost use Rattle.sd_serve.specs.Through.{FlushesThrough};
 ghost use Rattle.sd_serve.specs.Workers.{AreReady, HaveRun, held, sights};
+ghost use Rattle.sd_model_serve.specs.Rounds.{OutletRoom};
 
-use crate::object_types::{ObjectTypes, ObjectsOf};
+use crate::objects::ObjectsOf;
 use crate::out_room::OutRooms;
 use crate::run_settings::RunSettings;
 use crate::services::ServicePosts;
@@ -17,6 +17,7 @@ use log::Log;
 use sd_flush::Flushed;
 use sd_outside::{DoorEnd, Ended};
 use sd_receive::Post;
+use sd_run::ObjectTypes;
 use sd_shared::Shared;
 use sd_workers::run_with_third;
 use std::sync::Wait;

@@ -15,7 +15,7 @@ ghost use Rattle.sd_serve.specs.Work.{CanFeed, CanKeep, CanLine, HasFed, HasKept
 ghost use Rattle.sd_serve.specs.Workers.{AreReady, HaveRun, held, sights};
 ghost use Rattle.sd_serve.specs.Written.{IsNewDrain, WasDrained, written_by};
 
-use crate::object_types::{ObjectTypes, ObjectsOf};
+use crate::objects::ObjectsOf;
 use crate::out_room::{OutRoom, OutRooms};
 use crate::run_settings::RunSettings;
 use crate::services::ServicePosts;
@@ -27,6 +27,7 @@ use sd_flush::{Flushed, FlushedOut, Lead, Outs, Skips};
 use sd_outlet::{Drain, Feed, Outlet, Worked};
 use sd_outside::{Backend, Backs, DoorEnd, Ended};
 use sd_receive::Post;
+use sd_run::ObjectTypes;
 use sd_shared::Shared;
 use std::sync::Wait;
 use std::thread::Threads;

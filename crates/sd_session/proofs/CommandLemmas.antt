@@ -1,20 +1,20 @@
 -- Sessions ask for deletions and dumps alone.
 use Rattle.std.proofs.Common.{ℕ, zero, suc, ◌+◌, take, List, [], ◌∷◌, ◌++◌, subst, sym, map}
-use Rattle.std.specs.List.{AllByRecursion}
+use Rattle.std.specs.List.{AllByRecursion, AllZip}
 use Rattle.std.proofs.lemmas.List.{map-append}
 use Rattle.sd_model_outside.specs.Outside.{Object}
 use Rattle.sd_model_settings.specs.Settings as file
 use Rattle.sd_model_shard.specs.Shard.{Event, Delete}
 use Rattle.sd_model_record.specs.Admin.{command, AdminFault}
 use Rattle.sd_model_record.specs.Replies.{admin_events}
-use Rattle.sd_model_serve.specs.Doors.{Visit, AreVisitsOf, asked_by}
+use Rattle.sd_model_serve.specs.Sessions.{Visit, IsVisitOf, asked_by, Dialogue, EndsSession, HasTalked, SessionEnd, lines_in, Exchange, admin_talk, GoesOn}
 use Rattle.sd_model_serve.specs.Sessions as model
-use Rattle.sd_model_serve.specs.Sessions.{Dialogue, EndsSession, HasTalked, SessionEnd, lines_in, Broadcast, Exchange, admin_talk, GoesOn, events_in}
 use Rattle.sd_session.specs.Commands.{AreCommands}
 use Rattle.std.specs.Prelude.{Result, Ok, Err}
 use Rattle.sd_model_text.specs.Names.{Kind}
 use Rattle.sd_model_record.specs.Admin as admin
 use Rattle.sd_model_serve.proofs.Short.{asked_in}
+use Rattle.sd_model_serve.specs.Receiving.{Broadcast, events_in}
 
 names_commands : (kind : Kind) (names : List (List ℕ)) → AreCommands (map (Delete kind) names)
 names_commands kind [] = tt
@@ -69,7 +69,7 @@ pub talked_commands : (shards : ℕ) (settings : file.Settings) (says : ℕ → 
 talked_commands shards settings says d source source_now sink sink_now h =
     exchanges_commands says d.exchanges d.last h.lines (last_commands shards settings says d.ended d.last d.rest source.faults source_now _ sink_now h.ends)
 
-pub visits_commands : (shards : ℕ) (settings : file.Settings) (says : ℕ → Type 0) (visits : List Visit) (dialogues : List (Dialogue Exchange)) → AreVisitsOf shards settings says visits dialogues → Asked (asked_by dialogues)
+pub visits_commands : (shards : ℕ) (settings : file.Settings) (says : ℕ → Type 0) (visits : List Visit) (dialogues : List (Dialogue Exchange)) → AllZip (IsVisitOf shards settings says) visits dialogues → Asked (asked_by dialogues)
 visits_commands shards settings says [] [] all = tt
 visits_commands shards settings says [] (d ∷ dialogues) all = absurd (all)
 visits_commands shards settings says (v ∷ visits) [] all = absurd (all)

@@ -4,8 +4,7 @@ use Rattle.std.specs.Prelude.{flat_map}
 use Rattle.sd_shared_desk.specs.Counts.{nothing}
 use Rattle.sd_model_record.specs.DeskHistory.{DeskCall}
 use Rattle.sd_shared_desk.proofs.CountLemmas.{counted_none, counted_next}
-use Rattle.sd_model_serve.specs.Doors.{line_calls}
-use Rattle.sd_model_serve.specs.Sessions.{Broadcast, Exchange}
+use Rattle.sd_model_serve.specs.Sessions.{line_calls, Exchange}
 use Rattle.sd_pool.specs.Pool.{own_at}
 use Rattle.sd_pool.specs.declared.seat.Seat.{Seat}
 use Rattle.sd_shared_desk.specs.Shared.{OwnSeat, part_of}
@@ -15,6 +14,7 @@ use Rattle.sd_session.specs.Answering.{AnswersWith, HasAnswered}
 use Rattle.sd_session.specs.declared.answerer.AdminAnswerer.{AdminAnswerer}
 use Rattle.sd_session.proofs.ExecutionLemmas.{Broadcasts-none, Broadcasts-next}
 use Rattle.sd_model_serve.proofs.Short.{asked_in}
+use Rattle.sd_model_serve.specs.Receiving.{Broadcast}
 
 module _ (shards : ℕ) where
   -- nothing

@@ -16,7 +16,7 @@ use Rattle.sd_model_shard.specs.History.{History}
 use Rattle.sd_model_record.specs.Admin.{AdminFault, Command, command}
 use Rattle.sd_model_record.specs.Desk.{Facts}
 use Rattle.sd_model_record.specs.Replies.{AdminReply, Gone, Finish, reply_text, admin_events, names_replied, replies_by, replies_text}
-use Rattle.sd_model_serve.specs.Sessions.{Broadcast, IsCut, acts_in, events_in, replies_at}
+use Rattle.sd_model_serve.specs.Sessions.{IsCut}
 use Rattle.sd_session.specs.Executed.{Broadcasts, AreReplied}
 use Rattle.sd_pool.proofs.ActsLemmas.{Adds-none, Adds-next}
 use Rattle.sd_totals.proofs.TakeLemmas.{take-more}
@@ -24,6 +24,7 @@ use Rattle.sd_command.proofs.CommandLemmas.{none_found, text-more}
 use Rattle.sd_session.specs.Asking.{Executes, DeletesNames}
 use Rattle.sd_model_serve.proofs.Short.{all_replies}
 use Rattle.sd_model_record.proofs.Short.{keys_reported}
+use Rattle.sd_model_serve.specs.Receiving.{Broadcast, events_in, acts_in, replies_at}
 
 pub Broadcasts-none : (shards : ℕ) (own : ℕ → History) → Broadcasts shards [] own own
 Broadcasts-none shards own = Adds-none shards own

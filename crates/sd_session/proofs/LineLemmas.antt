@@ -5,8 +5,7 @@ use Rattle.sd_model_record.specs.Admin.{command}
 use Rattle.sd_shared_desk.specs.Counts.{Part}
 use Rattle.sd_model_record.specs.Desk.{Facts, no_tally}
 use Rattle.sd_model_record.specs.DeskHistory.{DeskCall, Look, Reported as ReportedOf}
-use Rattle.sd_model_serve.specs.Doors.{health_calls, line_calls}
-use Rattle.sd_model_serve.specs.Sessions.{Exchange, is_quit}
+use Rattle.sd_model_serve.specs.Sessions.{health_calls, line_calls, Exchange, is_quit}
 
 -- the look of a line
 abbrev look_of : Exchange → DeskCall

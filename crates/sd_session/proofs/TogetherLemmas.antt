@@ -17,12 +17,11 @@ use Rattle.sd_model_shard.specs.Rows.{RowId, row_cmp, DumpRow, dump_of, in_key_o
 use Rattle.sd_model_shard.specs.Shard as shard
 use Rattle.sd_model_shard.specs.Shard.{State, Event, Numbers, empty_state, deletion_of, numbers_of}
 use Rattle.sd_model_shard.specs.History.{History}
-use Rattle.sd_model_serve.specs.Receiving.{administrator}
+use Rattle.sd_model_serve.specs.Receiving.{administrator, Broadcast}
 use Rattle.sd_model_record.specs.Replies.{keys_in, numbers_looked, rows_in}
 use Rattle.sd_model_record.proofs.OrderLemmas.{in_key_order_is, keys_in_order}
 use Rattle.sd_law_shards.specs.Shards.{AtHome}
 use Rattle.sd_law_shards.proofs.HomeLemmas.{all_keys_once, all_rows_once}
-use Rattle.sd_model_serve.specs.Sessions.{Broadcast}
 use Rattle.sd_session.specs.Executed.{Broadcasts}
 use Rattle.sd_shard.specs.Shard.{Appends}
 use Rattle.sd_pool.specs.Setup.{OnlyOf}

@@ -1,11 +1,10 @@
 -- The visits of admin sessions, one after another.
 use Rattle.std.proofs.Common.{◌≡◌, ℕ, List, [], ◌∷◌, ◌++◌, flat_map, ap, subst, sym, ◌∙◌, arith}
+use Rattle.std.specs.List.{AllZip}
 use Rattle.sd_model_settings.specs.Settings as file
-use Rattle.sd_model_record.specs.Totals.{Amounts, Count}
 use Rattle.sd_shared_desk.specs.Counts.{HasCounted, Part, nothing, plus}
 use Rattle.sd_model_record.specs.DeskHistory.{DeskCall}
-use Rattle.sd_model_serve.specs.Doors.{Visit, AreVisitsOf, asked_by, called_in, line_calls}
-use Rattle.sd_model_serve.specs.Sessions.{Dialogue, lines_in, Exchange}
+use Rattle.sd_model_serve.specs.Sessions.{Visit, IsVisitOf, asked_by, called_in, line_calls, Dialogue, lines_in, Exchange}
 use Rattle.sd_session.specs.Executed.{Broadcasts}
 use Rattle.sd_pool.specs.Pool.{own_at, shards_of}
 use Rattle.sd_pool.specs.declared.pool.Pool.{Pool}
@@ -14,6 +13,7 @@ use Rattle.sd_session.specs.Visiting.{HasVisited, WorksOn}
 use Rattle.sd_session.specs.declared.visiting.AdminVisitor.{AdminVisitor}
 use Rattle.sd_session.proofs.ExecutionLemmas.{Broadcasts-none, Broadcasts-next}
 use Rattle.sd_model_serve.proofs.Short.{asked_in}
+use Rattle.sd_desk.specs.Sums.{Count, Amounts}
 
 -- two that are nothing are nothing together
 none_and_none : (a b : Amounts) → a ≡ nothing → b ≡ nothing → plus a b ≡ nothing
@@ -32,7 +32,7 @@ module _ (says : ℕ → Type 0) (pool : Pool) where
     pub none : amounts ≡ nothing
     pub dialogues : List (Dialogue Exchange)
     pub called : calls ≡ called_in dialogues
-    pub went : AreVisitsOf (shards_of pool) old.settings.now says visits dialogues
+    pub went : AllZip (IsVisitOf (shards_of pool) old.settings.now says) visits dialogues
     pub asked : Broadcasts (shards_of pool) (asked_by dialogues) (own_at old.seat.now) (own_at new.seat.now)
 
   on_the_same : (old mid new : AdminVisitor) → WorksOn old mid → WorksOn mid new → WorksOn old new
@@ -66,7 +66,7 @@ module _ (says : ℕ → Type 0) (pool : Pool) where
         called = calls_of_one first.dialogue rest.dialogues h.3 h.4 calls first.called rest.called h.8;
         went = (
           first.went,
-          subst (λ (s : file.Settings). AreVisitsOf (shards_of pool) s says visits rest.dialogues) first.works.settings rest.went,
+          subst (λ (s : file.Settings). AllZip (IsVisitOf (shards_of pool) s says) visits rest.dialogues) first.works.settings rest.went,
         );
         asked = Broadcasts-next (shards_of pool) (asked_in (lines_in first.dialogue)) (asked_by rest.dialogues) (own_at old.seat.now) (own_at mid.seat.now) (own_at new.seat.now) first.asked rest.asked;
       }

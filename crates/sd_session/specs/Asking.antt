@@ -8,9 +8,9 @@ use Rattle.sd_model_shard.specs.History.{History}
 use Rattle.sd_model_shard.specs.Shard.{Delete, Dump, Look, Numbers}
 use Rattle.sd_model_record.specs.Desk.{Facts}
 use Rattle.sd_model_record.specs.Replies.{Finish, names_replied, numbers_looked, keys_in, rows_in}
-use Rattle.sd_model_serve.specs.Sessions.{Broadcast, events_in, replies_at}
 use Rattle.sd_session.specs.Executed.{Broadcasts, AreReplied, IsExecuted}
 use Rattle.std.specs.List.{range_with_len}
+use Rattle.sd_model_serve.specs.Receiving.{Broadcast, events_in, replies_at}
 
 module _ (shards : ℕ) where
   -- each of so many shards was asked for a deletion, and these are the keys that all of them told

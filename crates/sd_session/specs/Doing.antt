@@ -2,12 +2,12 @@
 use Rattle.std.specs.Prelude.{◌≡◌, ℕ, List, ◌++◌}
 use Rattle.sd_shared_desk.specs.Counts.{HasCounted, nothing}
 use Rattle.sd_model_record.specs.DeskHistory.{DeskCall}
-use Rattle.sd_model_serve.specs.Doors.{line_calls}
-use Rattle.sd_model_serve.specs.Sessions.{Broadcast, Exchange}
+use Rattle.sd_model_serve.specs.Sessions.{line_calls, Exchange}
 use Rattle.sd_session.specs.Executed.{Broadcasts}
 use Rattle.sd_pool.specs.Pool.{own_at}
 use Rattle.sd_pool.specs.declared.seat.Seat.{Seat}
 use Rattle.sd_shared_desk.specs.Shared.{OwnSeat, number_of_seat, part_of}
+use Rattle.sd_model_serve.specs.Receiving.{Broadcast}
 
 -- A thread asked this of each of so many shards, and made these calls of the desk, at which it counted nothing. Its seat there keeps its
 -- number.

@@ -5,8 +5,10 @@ use Rattle.sd_model_settings.specs.Settings as file
 use Rattle.sd_model_shard.specs.Shard.{Event}
 use Rattle.sd_model_shard.specs.History.{History}
 use Rattle.sd_pool.specs.Adding.{Adds}
-use Rattle.sd_model_record.specs.Replies.{AdminReply, replies_text}
-use Rattle.sd_model_serve.specs.Sessions.{Broadcast, Exchange, IsCut, acts_in, events_in, events_of_line, replies_of}
+use Rattle.sd_model_record.specs.Admin.{command}
+use Rattle.sd_model_record.specs.Replies.{AdminReply, admin_events, replies_text}
+use Rattle.sd_model_serve.specs.Sessions.{Exchange, IsCut, replies_of}
+use Rattle.sd_model_serve.specs.Receiving.{Broadcast, events_in, acts_in}
 
 -- At each of so many shards the administrator asked for these events behind what it had asked for.
 abbrev pub Broadcasts : ℕ → List Broadcast → (ℕ → History) → (ℕ → History) → Type 0
@@ -24,4 +26,4 @@ AreReplied replies events asked (Err fault) old new = IsCut replies events asked
 
 -- a line was executed: whole, or up to where a reply was cut
 abbrev pub IsExecuted : {E : Type 0} → ℕ → file.Settings → Exchange → Result ⊤ E → Object → Object → Type 0
-IsExecuted shards settings e result old new = AreReplied (replies_of shards settings e) (events_of_line e) (events_in e.asked) result old new
+IsExecuted shards settings e result old new = AreReplied (replies_of shards settings e) (admin_events (command e.line)) (events_in e.asked) result old new

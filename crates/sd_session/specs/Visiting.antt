@@ -1,16 +1,15 @@
 -- The visitor of admin sessions: what it needs, and what a visit leaves.
 use Rattle.std.specs.Prelude.{◌≡◌, ℕ, List, flat_map}
 use Rattle.sd_model_serve.specs.Receiving.{administrator}
-use Rattle.sd_model_record.specs.Totals.{Amounts}
 use Rattle.sd_shared_desk.specs.Counts.{nothing}
 use Rattle.sd_model_record.specs.DeskHistory.{DeskCall}
-use Rattle.sd_model_serve.specs.Doors.{Visit, IsVisitOf, line_calls}
-use Rattle.sd_model_serve.specs.Sessions.{Dialogue, lines_in, Exchange}
+use Rattle.sd_model_serve.specs.Sessions.{Visit, IsVisitOf, line_calls, Dialogue, lines_in, Exchange}
 use Rattle.sd_session.specs.Executed.{Broadcasts}
 use Rattle.sd_pool.specs.Pool.{IsSeatOf, limits_of, own_at, shards_of, who_is}
 use Rattle.sd_pool.specs.declared.pool.Pool.{Pool}
 use Rattle.sd_session.specs.Space.{IsSpaceFor}
 use Rattle.sd_session.specs.declared.visiting.AdminVisitor.{AdminVisitor}
+use Rattle.sd_desk.specs.Sums.{Amounts}
 
 -- it has the administrator's seat of a pool, and room for the replies
 pub record CanVisit (pool : Pool) (visitor : AdminVisitor) : Type 0 where

@@ -2,8 +2,7 @@ ghost use Rattle.std.specs.Prelude.{◌≡◌, ◌*◌, ◌<◌, ◌≤◌, ◌+
 ghost use Rattle.sd_model_record.specs.Admin.{command};
 ghost use Rattle.sd_model_serve.specs.Receiving.{administrator};
 ghost use Rattle.sd_shared_desk.specs.Counts.{HasCounted, nothing};
-ghost use Rattle.sd_model_serve.specs.Doors.{health_calls};
-ghost use Rattle.sd_model_serve.specs.Sessions.{Exchange, admin_talk, is_quit};
+ghost use Rattle.sd_model_serve.specs.Sessions.{health_calls, Exchange, admin_talk, is_quit};
 ghost use Rattle.sd_pool.specs.Pool.{IsSeatOf, limits_of, shards_of, who_is};
 ghost use Rattle.sd_shared_desk.specs.Shared.{IsSeatOf as IsDeskSeatOf, number_of_seat, part_of};
 ghost use Rattle.sd_talk.specs.Answers.{Answers};

@@ -1,6 +1,5 @@
 ghost use Rattle.std.specs.Prelude.{◌≡◌};
-ghost use Rattle.sd_model_serve.specs.Sessions.{ReadFault, WriteFault};
-ghost use Rattle.sd_model_serve.specs.Doors.{ends_by_fault};
+ghost use Rattle.sd_model_serve.specs.Sessions.{ReadFault, WriteFault, ends_by_fault};
 ghost use Rattle.sd_talk.specs.Sessions.{end_of};
 
 use crate::sessions::session;

@@ -3,10 +3,11 @@ use Rattle.std.proofs.Common.{◌≡◌, ℕ, ◌+◌, ◌-◌, Bool, true, fals
 use Rattle.std.proofs.lemmas.List.{nil_from_length}
 use Rattle.std.specs.FinMap.{contains_key, empty, entries, from_entries, get, get-empty, get-retain_keys, len-empty, len-entries, same_map}
 use Rattle.sd_model_text.specs.Names.{Kind}
-use Rattle.sd_model_shard.specs.Rows.{RowId, Kept, Rows, row_cmp, is_hit, keys_of, rows_taken_out, rows_left, samples_in, listed_in, is_listed}
+use Rattle.sd_model_shard.specs.Rows.{RowId, Kept, Rows, row_cmp, is_hit, keys_of, rows_taken_out, rows_left, samples_in, is_listed}
 use Rattle.sd_model_shard.specs.Shard.{State, after_delete}
 use Rattle.sd_model_shard.proofs.ListedLemmas.{retained}
 use Rattle.sd_model_shard.proofs.RowLemmas.{rows_exact, rows_total}
+use Rattle.sd_model_shard.proofs.Short.{listed_in}
 
 absent : (o : Option Kept) → is_some o ≡ false → o ≡ None
 absent None h = refl

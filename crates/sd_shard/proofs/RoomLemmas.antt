@@ -5,8 +5,9 @@ use Rattle.std.specs.Prelude.{nat_lt}
 use Rattle.std.proofs.lemmas.Bool.{ltb-true}
 use Rattle.std.proofs.lemmas.List.Sums.{sum_by-cons}
 use Rattle.sd_model_text.specs.Lines.{Sample}
-use Rattle.sd_model_shard.specs.Rows.{RowId, Rows, Kept, row_of, is_listed, samples_in, listed_in}
+use Rattle.sd_model_shard.specs.Rows.{RowId, Rows, Kept, row_of, is_listed, samples_in}
 use Rattle.sd_model_shard.specs.Shard.{State, Limits, Cause, NoRow, NoNumber, refusal, is_full, full_cause, last_number}
+use Rattle.sd_model_shard.proofs.Short.{listed_in}
 
 admits : (limits : Limits) (state : State) (live : ℕ) (b : Bool) (o : Option Cause) → nat_lt live limits.rows ≡ b → None ≡ cond (not b) (Some (NoRow live limits.rows)) o → live < limits.rows
 admits limits state live true o test h = ltb-true live limits.rows test

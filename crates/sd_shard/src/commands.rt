@@ -1,6 +1,6 @@
 ghost use Rattle.std.specs.Prelude.{◌≡◌, ◌+◌, ◌<◌, ◌≤◌, ◌++◌, true, false, filter, length, map, slice_get, IfSome};
 ghost use Rattle.std.specs.FinMap.{contains_key};
-ghost use Rattle.sd_model_shard.specs.Rows.{is_hit, is_of_kind, dump_row, RowId};
+ghost use Rattle.sd_model_shard.specs.Rows.{is_hit, is_of_kind, RowId, amount_by};
 ghost use Rattle.sd_key.specs.Kind.{kind_of};
 ghost use Rattle.sd_epoch.specs.Table.{live_of, AreApart};
 ghost use Rattle.sd_shard.specs.Dump.{dump_row_of, rows_of};
@@ -43,7 +43,7 @@ pub(crate) fn push_keys(table: &Table, kind: Kind, pattern: &Pattern, out: &mut 
 /// A table's i-th row as a dump tells it.
 fn dump_row(table: &Table, i: u32) -> DumpRow
     requires { i < length table.now.listed }
-    ensures { IfSome (slice_get table.now.listed i) (λ row. dump_row_of result ≡ dump_row row) }
+    ensures { IfSome (slice_get table.now.listed i) (λ row. dump_row_of result ≡ record { key = row.0.key; samples = row.1.since.samples; amount = amount_by row.0.kind row.1.since }) }
 {
     let facts = table.row(i);
     DumpRow {
@@ -56,7 +56,7 @@ fn dump_row(table: &Table, i: u32) -> DumpRow
 /// Appends the rows of a kind.
 pub(crate) fn push_rows(table: &Table, kind: Kind, out: &mut Dump)
     requires { length out.old.items + length table.now.listed ≤ out.old.room }
-    ensures rows { rows_of out.new ≡ rows_of out.old ++ map dump_row (filter (λ row. is_of_kind (kind_of kind) row.0) table.now.listed) }
+    ensures rows { rows_of out.new ≡ rows_of out.old ++ map (λ row. record { key = row.0.key; samples = row.1.since.samples; amount = amount_by row.0.kind row.1.since }) (filter (λ row. is_of_kind (kind_of kind) row.0) table.now.listed) }
     ensures few { length out.new.items ≤ length out.old.items + table.now.limits.rows }
     ensures room { out.new.room ≡ out.old.room }
     ensures apart { AreApart table.now.listed }

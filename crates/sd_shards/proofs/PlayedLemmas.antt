@@ -9,8 +9,7 @@ use Rattle.std.proofs.lemmas.List.Sums.{sum_by-cons}
 use Rattle.sd_model_text.specs.Names.{shard}
 use Rattle.sd_model_text.specs.Lines.{Sample, samples_of}
 use Rattle.sd_model_shard.specs.Shard.{State, Stepped, Limits, Policy, Submit, Reply, step}
-use Rattle.sd_model_shard.specs.History.{Act, History, LegalFrom, after_all, answered, part_of}
-use Rattle.sd_model_shard.specs.Whereabouts.{dropped_in, summed_by}
+use Rattle.sd_model_shard.specs.History.{Act, History, LegalFrom, after_all, answered, part_of, dropped_in, summed_by}
 use Rattle.sd_model_shard.proofs.HistoryLemmas.{LegalFrom-answered, asked_in, legal_is_answered}
 use Rattle.sd_model_shard.proofs.OrderLemmas.{sum_by-flat_map, sum_by-map}
 use Rattle.sd_model_serve.specs.Receiving.{asks, events_of, summed_in}

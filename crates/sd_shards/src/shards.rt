@@ -5,7 +5,7 @@ ghost use Rattle.std.specs.Cmp.Lexicographic.{slice_cmp};
 ghost use Rattle.sd_model_text.specs.Lines.{pieces, bad_of};
 ghost use Rattle.sd_model_shard.specs.Shard.{Dumped, empty_state, after_swap, after_delete, deletion_of, numbers_of, table_of};
 ghost use Rattle.sd_model_shard.specs.Rows.{dump_of, in_key_order};
-ghost use Rattle.sd_model_shard.specs.Whereabouts.{dropped_in};
+ghost use Rattle.sd_model_shard.specs.History.{dropped_in};
 ghost use Rattle.sd_model_record.specs.Replies.{keys_in, rows_in};
 ghost use Rattle.sd_model_replay.specs.Script.{Packet};
 ghost use Rattle.sd_model_replay.specs.Replay.{replies_to, states_after};

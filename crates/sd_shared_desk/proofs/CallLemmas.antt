@@ -7,7 +7,6 @@ use Rattle.std.proofs.lemmas.List.{map-append, map_push}
 use Rattle.std.proofs.lemmas.List.Sums.{fold_push, sum_by-append, sum_by-cons}
 use Rattle.sd_model_record.specs.Desk.{Desk, Facts, new_desk}
 use Rattle.sd_model_record.specs.DeskHistory.{AnswersFrom, DeskAct, DeskCall, DeskHistory, Look, Reported, calls_by, desk_after, desk_answer, desk_step}
-use Rattle.sd_model_record.specs.Totals.{Count, TotalPackets, TotalLines, TotalBad, TotalDropped, RoundsMade, GraphiteFaults, ConsoleFaults, RepeaterFaults, AdminFaults, number_of, place}
 use Rattle.sd_shared_desk.specs.Counts.{AreSeen, HasCalled, HasCounted, IsLook, of_calls, of_event, of_history}
 use Rattle.sd_model_record.proofs.CountLemmas.{starts_at_none}
 use Rattle.sd_shared_desk.proofs.CountLemmas.{new_in_range}
@@ -23,6 +22,7 @@ use Rattle.sd_shared_desk.specs.Shared.{Calls, OwnSeat, calls_of, history_of, nu
 use Rattle.sd_shared_desk.proofs.StandsLemmas.{acts-push, step_start}
 use Rattle.sd_model_shard.specs.Shard.{last_number}
 use Rattle.sd_model_record.proofs.Short.{desk_left, IsDeskHistory}
+use Rattle.sd_desk.specs.Sums.{Count, place, number_of, TotalPackets, TotalLines, TotalBad, TotalDropped, RoundsMade, GraphiteFaults, ConsoleFaults, RepeaterFaults, AdminFaults}
 
 acts-append : (xs ys : List Noted) → acts (xs ++ ys) ≡ acts xs ++ acts ys
 acts-append xs ys = map-append {B = DeskAct} act_in xs ys

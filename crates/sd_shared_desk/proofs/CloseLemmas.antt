@@ -7,9 +7,8 @@ use Rattle.std.proofs.lemmas.List.Sums.{sum_by-append, sum_by-cons}
 use Rattle.sd_turn.specs.Lists.{total}
 use Rattle.sd_turn.proofs.Totals.{total-map, total-sum_by}
 use Rattle.sd_model_record.specs.Desk.{Desk, IsWhole, counted, new_desk}
-use Rattle.sd_desk.specs.Sums.{AddsUp}
+use Rattle.sd_desk.specs.Sums.{AddsUp, Count, number_of, TotalPackets, TotalLines, TotalBad, TotalDropped, TakenPackets, TakenLines, TakenBad, TakenDropped}
 use Rattle.sd_model_record.specs.DeskHistory.{DeskAct, DeskCall, DeskHistory, calls_by, desk_after}
-use Rattle.sd_model_record.specs.Totals.{Count, TotalPackets, TotalLines, TotalBad, TotalDropped, TakenPackets, TakenLines, TakenBad, TakenDropped, number_of}
 use Rattle.sd_shared_desk.specs.Counts.{of_event, of_history, share}
 use Rattle.sd_shared_desk.proofs.DeskLemmas.{acts_rise}
 use Rattle.sd_turn.specs.Entries.{Begins, entries_by}

@@ -1,11 +1,11 @@
 -- What changes of a desk add to its numbers, and what callers add.
 use Rattle.std.proofs.Common.{◌≡◌, ℕ, Bool, refl, ap, ◌∙◌, arith}
 use Rattle.sd_model_record.specs.Record.{Tally}
-use Rattle.sd_model_record.specs.Desk.{Desk, Marks, add_tally, counted, new_desk, no_tally, with_tally, taken, marked, with_health, with_admin_fault, with_repeater_faults}
-use Rattle.sd_desk.specs.Sums.{AddsUp, IsTallyInRange, IsInRange}
-use Rattle.sd_model_record.specs.Totals.{TotalPackets, TotalLines, TotalBad, TotalDropped, TakenPackets, TakenLines, TakenBad, TakenDropped, RoundsMade, GraphiteFaults, ConsoleFaults, RepeaterFaults, AdminFaults, Amounts, Count, number_of, place}
+use Rattle.sd_model_record.specs.Desk.{Desk, Marks, add_tally, counted, new_desk, no_tally}
+use Rattle.sd_desk.specs.Sums.{AddsUp, IsTallyInRange, IsInRange, Count, Amounts, place, number_of, TotalPackets, TotalLines, TotalBad, TotalDropped, TakenPackets, TakenLines, TakenBad, TakenDropped, RoundsMade, GraphiteFaults, ConsoleFaults, RepeaterFaults, AdminFaults}
 use Rattle.sd_shared_desk.specs.Counts.{GrewBy, KeepsCounts, Part, HasCounted, nothing, plus, of_tally, of_taken, of_marks, of_sends, of_sessions}
 use Rattle.sd_model_record.proofs.CountLemmas.{starts_at_none}
+use Rattle.sd_desk.specs.Steps.{with_tally, taken, marked, with_health, with_admin_fault, with_repeater_faults}
 
 -- a number of a desk in range, to which nothing is added
 stays : (d : Desk) → IsInRange d → (count : Count) → number_of d count ≡ counted (number_of d count) 0

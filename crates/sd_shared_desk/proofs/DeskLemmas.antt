@@ -1,14 +1,14 @@
 -- Histories of the desk that grow, and what they add to its numbers.
 use Rattle.std.proofs.Common.{◌≡◌, ◌+◌, min, List, [], ◌∷◌, ◌++◌, sym, ap, subst, ◌∙◌, arith, append_assoc, append-nil}
 use Rattle.std.proofs.lemmas.List.Sums.{sum_by-cons, sum_by-append}
-use Rattle.sd_model_record.specs.Desk.{Desk, with_tally, taken, with_health, marked, with_admin_fault, with_repeater_faults}
+use Rattle.sd_model_record.specs.Desk.{Desk}
 use Rattle.sd_model_record.specs.DeskHistory.{DeskAct, DeskAnswer, DeskCall, DeskEvent, DeskHistory, Add, Take, SetHealth, Mark, AdminFault, RepeaterFaults as FailedSends, Look, AnswersFrom, desk_answer, desk_step}
-use Rattle.sd_model_record.specs.Totals.{Count, number_of}
 use Rattle.sd_shared_desk.specs.Counts.{GrewBy, HasCalled, KeepsCounts, Part, nothing, of_calls, of_event, of_history, of_marks, of_sends, of_sessions, of_taken, of_tally}
-use Rattle.sd_desk.specs.Sums.{IsInRange}
+use Rattle.sd_desk.specs.Sums.{IsInRange, Count, number_of}
 use Rattle.sd_shared_desk.proofs.CountLemmas.{adds_tally, adds_taken, grew_tally, grew_taken, grew_marks, grew_health, grew_sessions, grew_sends, keeps_by, none_in_range, sum_in_range}
 use Rattle.sd_model_shard.specs.Shard.{last_number}
 use Rattle.sd_model_record.proofs.Short.{desk_left}
+use Rattle.sd_desk.specs.Steps.{with_tally, taken, marked, with_health, with_admin_fault, with_repeater_faults}
 
 -- one act more
 pub answers_push : (d : Desk) (acts : DeskHistory) (a : DeskAct) → AnswersFrom d acts → a.call.answer ≡ desk_answer (desk_left d acts) a.call.event → AnswersFrom d (acts ++ a ∷ [])

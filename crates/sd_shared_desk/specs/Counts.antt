@@ -4,8 +4,7 @@ use Rattle.sd_model_record.specs.Record.{Tally}
 use Rattle.sd_model_outside.specs.Uses.{fault_of}
 use Rattle.sd_model_record.specs.DeskHistory.{DeskAnswer, DeskCall, DeskEvent, DeskHistory, Add, Take, Mark, AdminFault, RepeaterFaults as FailedSends, Look, Took}
 use Rattle.sd_model_record.specs.Desk.{Desk, Facts, Marks, counted}
-use Rattle.sd_desk.specs.Sums.{AddsUp, IsInRange}
-use Rattle.sd_model_record.specs.Totals.{AdminFaults, Amounts, ConsoleFaults, Count, GraphiteFaults, RepeaterFaults, RoundsMade, TakenBad, TakenDropped, TakenLines, TakenPackets, TotalBad, TotalDropped, TotalLines, TotalPackets, number_of}
+use Rattle.sd_desk.specs.Sums.{AddsUp, IsInRange, Count, Amounts, number_of, TotalPackets, TotalLines, TotalBad, TotalDropped, TakenPackets, TakenLines, TakenBad, TakenDropped, RoundsMade, GraphiteFaults, ConsoleFaults, RepeaterFaults, AdminFaults}
 use Rattle.sd_model_shard.specs.Shard.{last_number}
 
 -- a change of a desk keeps its sums and its range, and lets no number fall

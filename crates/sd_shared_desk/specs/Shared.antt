@@ -2,7 +2,6 @@
 use Rattle.std.specs.Prelude.{◌≡◌, ℕ, List, [], ◌∷◌, ◌++◌, All, Any, min, sum_by}
 use Rattle.sd_model_record.specs.Desk.{Desk, IsWhole, new_desk}
 use Rattle.sd_model_record.specs.DeskHistory.{DeskCall, DeskHistory, calls_by, desk_after, AnswersFrom}
-use Rattle.sd_model_record.specs.Totals.{Count, TotalPackets, TotalLines, TotalBad, TotalDropped, TakenPackets, TakenLines, TakenBad, TakenDropped}
 use Rattle.sd_shared_desk.specs.Counts.{Part, of_history, share}
 use Rattle.sd_turn.specs.declared.turn_seat.TurnSeat.{TurnSeat}
 use Rattle.sd_turn.specs.Entries.{Begins, GoesOn}
@@ -14,6 +13,7 @@ use Rattle.sd_shared_desk.specs.declared.noted.Noted.{Noted}
 use Rattle.sd_shared_desk.specs.declared.noted.Setup.{Setup}
 use Rattle.sd_shared_desk.specs.declared.shared_desk.SharedDesk.{SharedDesk}
 use Rattle.sd_model_shard.specs.Shard.{last_number}
+use Rattle.sd_desk.specs.Sums.{Count, TotalPackets, TotalLines, TotalBad, TotalDropped, TakenPackets, TakenLines, TakenBad, TakenDropped}
 
 -- a seat of a shared desk
 abbrev pub OwnSeat : Type 0

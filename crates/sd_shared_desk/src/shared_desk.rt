@@ -3,12 +3,12 @@ ghost use Rattle.std.specs.List.{AllByRecursion};
 ghost use Rattle.sd_turn.specs.Lists.{span};
 ghost use Rattle.sd_model_record.specs.Desk.{new_desk};
 ghost use Rattle.sd_model_record.specs.DeskHistory.{DeskCall, Add, Take, SetHealth, Mark, AdminFault, RepeaterFaults, Look, Done, Took, Reported};
-ghost use Rattle.sd_model_record.specs.Totals.{Count, RoundsMade, number_of};
 ghost use Rattle.sd_shared_desk.specs.Counts.{HasCalled, HasCounted, AreSeen, IsLook, nothing, of_tally, of_taken, of_marks, of_sessions, of_sends};
 ghost use Rattle.sd_desk.specs.Facts.{facts_view};
 ghost use Rattle.sd_desk.specs.Marks.{marks_of};
 ghost use Rattle.sd_desk.specs.Tally.{tally_of};
 ghost use Rattle.sd_model_shard.specs.Shard.{last_number};
+ghost use Rattle.sd_desk.specs.Sums.{Count, number_of, RoundsMade};
 
 use crate::ask::{DeskAsk, DeskReply};
 use crate::value::DeskValue;

@@ -1,6 +1,7 @@
-ghost use Rattle.std.specs.Prelude.{◌≡◌, ◌^◌, ◌<◌, ◌≤◌, unsigned_abs, length, if◌then◌else◌, take, drop, ◌-◌};
-ghost use Rattle.sd_model_shard.specs.Values.{first, last, is_upper, part_count, part};
+ghost use Rattle.std.specs.Prelude.{◌≡◌, ◌^◌, ◌<◌, ◌≤◌, unsigned_abs, length, if◌then◌else◌, take, drop, ◌-◌, ◌*◌, ◌==◌};
+ghost use Rattle.sd_model_shard.specs.Values.{first, last, is_upper, part};
 ghost use Rattle.sd_stats.specs.Timer.{numbers, AreTimerValues, part_of as seen_part};
+ghost use Rattle.sd_model_text.specs.Numbers.{rounded};
 
 use crate::figures::PctStats;
 use crate::sums::{as_sum, mean, sum_squares, total};
@@ -15,7 +16,7 @@ const FIFTY: u64 = 50_000_000;
 pub(crate) fn part_count(threshold: Micro, n: usize) -> usize
     requires hundred { unsigned_abs threshold.0 ≤ 10 ^ 8 }
     requires many { n ≤ 2 ^ 20 }
-    ensures value { result ≡ part_count threshold.0 n }
+    ensures value { result ≡ (if n == 1 then 1 else rounded (unsigned_abs threshold.0 * n) 100000000) }
     ensures bound { result ≤ n }
 {
     if n == 1 {

@@ -6,7 +6,7 @@ use Rattle.sd_model_outside.specs.Outside.{Object, Content, Unknown, Left, Numbe
 use Rattle.sd_model_outside.specs.Uses.{session_of, with_sessions, with_back}
 use Rattle.sd_outside.specs.Turns.{GivesSession, HasLeft, turned}
 use Rattle.sd_model_outside.proofs.TurnLemmas.{with_sessions-append, with_back-append}
-use Rattle.sd_model_serve.specs.Doors.{Visit, ServesDoor, faults_among}
+use Rattle.sd_model_serve.specs.Sessions.{Visit, ServesDoor, faults_among}
 use Rattle.sd_talk.proofs.AlongLemmas.{all-append}
 use Rattle.sd_model_serve.proofs.Short.{IsFaultOf, IsFresh}
 

@@ -4,8 +4,7 @@ use Rattle.std.proofs.lemmas.Grind.{flat_map-append}
 use Rattle.std.specs.Prelude.{flat_map}
 use Rattle.sd_model_outside.specs.Outside.{Object, HasFailed}
 use Rattle.sd_outside.specs.Turns.{raised, GivesSession, HasLeft, turned}
-use Rattle.sd_model_serve.specs.Doors.{Visit}
-use Rattle.sd_model_serve.specs.Sessions.{Talk, lines_in}
+use Rattle.sd_model_serve.specs.Sessions.{Visit, Talk, lines_in}
 use Rattle.sd_talk.specs.Answers.{Along}
 use Rattle.sd_talk.specs.Serving.{IsTalkOf, ServesTalks}
 use Rattle.sd_talk.specs.Sessions.{HoldsSession}

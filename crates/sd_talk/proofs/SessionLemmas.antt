@@ -6,9 +6,8 @@ use Rattle.sd_outside.specs.Turns.{FitsLastCount}
 use Rattle.sd_model_outside.proofs.OutsideLemmas.{Reads-nil}
 use Rattle.sd_outside.proofs.NothingWritten.{appended-nil}
 use Rattle.sd_model_outside.proofs.WriteLemmas.{given-given}
-use Rattle.sd_model_serve.specs.Doors.{ends_by_fault}
+use Rattle.sd_model_serve.specs.Sessions.{ends_by_fault, Talk, Dialogue, EndsSession, FitsLine, HasNoNewline, HasTalked, bytes_of, replied, too_many, lines_in}
 use Rattle.sd_model_serve.specs.Sessions as model
-use Rattle.sd_model_serve.specs.Sessions.{Talk, Dialogue, EndsSession, FitsLine, HasNoNewline, HasTalked, bytes_of, replied, too_many, lines_in}
 use Rattle.sd_outside.proofs.ReadLemmas.{reads_on}
 use Rattle.sd_talk.specs.Answers.{Answers}
 use Rattle.sd_talk.specs.Reading.{CannotRead, Listens, RepliesTooLong, Stops}

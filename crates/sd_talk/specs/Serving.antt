@@ -4,8 +4,7 @@ use Rattle.std.specs.List.{AllZip}
 use Rattle.sd_model_outside.specs.Outside.{Object}
 use Rattle.sd_outside.specs.Turns.{raised}
 use Rattle.sd_model_outside.specs.Uses.{IsSpent}
-use Rattle.sd_model_serve.specs.Doors.{ServesDoor, Visit, ends_by_fault}
-use Rattle.sd_model_serve.specs.Sessions.{Dialogue, HasTalked, Talk, lines_in}
+use Rattle.sd_model_serve.specs.Sessions.{ServesDoor, Visit, ends_by_fault, Dialogue, HasTalked, Talk, lines_in}
 use Rattle.sd_outside.specs.declared.door.DoorEnd.{DoorEnd}
 use Rattle.sd_outside.specs.declared.door.DoorEnd.TheVariants.{End, Stopped, Worn}
 use Rattle.sd_talk.specs.Answers.{Along}

@@ -1,9 +1,8 @@
 -- Sessions, as contracts tell them.
 use Rattle.std.specs.Prelude.{◌≡◌, Bool}
 use Rattle.sd_model_outside.specs.Outside.{Object}
-use Rattle.sd_model_serve.specs.Doors.{Visit, ends_by_fault}
+use Rattle.sd_model_serve.specs.Sessions.{Visit, ends_by_fault, Dialogue, HasTalked, Talk, lines_in}
 use Rattle.sd_model_serve.specs.Sessions as model
-use Rattle.sd_model_serve.specs.Sessions.{Dialogue, HasTalked, Talk, lines_in}
 use Rattle.sd_talk.specs.Answers.{Along}
 use Rattle.sd_talk.specs.declared.sessions.SessionEnd.{SessionEnd}
 use Rattle.sd_talk.specs.declared.sessions.SessionEnd.TheVariants.{Quit, End, ReadFault, WriteFault, LineTooLong}

@@ -1,6 +1,6 @@
 //! The sessions of a door, one after another.
 ghost use Rattle.std.specs.Prelude.{◌≡◌, ℕ, ◌+◌, ◌<◌, ◌^◌, true, false};
-ghost use Rattle.sd_model_serve.specs.Doors.{ends_by_fault};
+ghost use Rattle.sd_model_serve.specs.Sessions.{ends_by_fault};
 ghost use Rattle.sd_talk.specs.Room.{IsLineRoom};
 ghost use Rattle.sd_talk.specs.Serving.{EndsServing, ServesTalks, Turns};
 ghost use Rattle.sd_talk.specs.Sessions.{end_of};

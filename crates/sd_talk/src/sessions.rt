@@ -1,8 +1,7 @@
 //! Sessions at their two ends.
 ghost use Rattle.std.specs.Prelude.{◌≡◌, ℕ, ◌+◌, ◌<◌, ◌≤◌, true, List, [], ◌∷◌, ◌++◌, length, take, drop, MatchOption, IfNone, IfSome};
 ghost use Rattle.sd_model_outside.specs.Outside.{HasRead};
-ghost use Rattle.sd_model_serve.specs.Doors.{ends_by_fault};
-ghost use Rattle.sd_model_serve.specs.Sessions.{HasNoNewline, too_many};
+ghost use Rattle.sd_model_serve.specs.Sessions.{ends_by_fault, HasNoNewline, too_many};
 ghost use Rattle.sd_talk.specs.Reading.{CannotRead, Listens, RepliesTooLong, Stops};
 ghost use Rattle.sd_talk.specs.Room.{IsLineRoom};
 ghost use Rattle.sd_talk.specs.Sessions.{HoldsSession, end_of, visit_of};

@@ -2,10 +2,11 @@
 use Rattle.std.proofs.Common.{◌≡◌, ℕ, suc, ◌+◌, ◌<◌, ◌≤◌, Bool, true, false, cond, eqb, nat_le, List, [], ◌∷◌, ◌++◌, length, refl, sym, ap, subst, ◌∙◌, arith, append-nil, append_assoc, length-append}
 use Rattle.std.proofs.lemmas.Bool.{leb-false, le-leb, lt-leb, or_parts}
 use Rattle.sd_law_text.specs.Bytes.{has_byte}
-use Rattle.sd_model_stream.specs.Streams.{StreamLine, Line, Long, cut_of, stream_lines}
+use Rattle.sd_model_stream.specs.Streams.{StreamLine, Line, Long, stream_lines}
 use Rattle.sd_tcp.specs.Cutting.{rest_of, Cutting, CutsOn, HasCut, longer, nothing_cut, ready_in, through_newline}
 use Rattle.sd_tcp.proofs.SplitLemmas.{lines-grown, lines-ended, rest-grown, rest-ended}
 use Rattle.sd_model_text.specs.Lines.{longest_datagram}
+use Rattle.sd_model_stream.proofs.Short.{cut_of}
 
 -- few bytes are a line
 pub cut_of-few : (bytes : List ℕ) → length bytes ≤ longest_datagram → cut_of bytes ≡ Line bytes

@@ -4,8 +4,9 @@ use Rattle.std.proofs.lemmas.List.{map-append}
 use Rattle.sd_model_text.specs.Lists.{split, onto_first}
 use Rattle.sd_law_text.specs.Bytes.{has_byte}
 use Rattle.sd_law_text.proofs.CutLemmas.{split-none}
-use Rattle.sd_model_stream.specs.Streams.{StreamLine, but_last, cut_of, stream_lines}
+use Rattle.sd_model_stream.specs.Streams.{StreamLine, but_last, stream_lines}
 use Rattle.sd_tcp.specs.Cutting.{last_part, rest_of}
+use Rattle.sd_model_stream.proofs.Short.{cut_of}
 
 -- bytes behind the last of parts
 abbrev onto_last : List ℕ → List (List ℕ) → List (List ℕ)

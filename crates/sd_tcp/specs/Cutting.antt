@@ -1,7 +1,8 @@
 -- What a cutter holds of a stream that comes piece by piece.
-use Rattle.std.specs.Prelude.{◌≡◌, ℕ, Bool, true, false, List, [], ◌∷◌, if◌then◌else◌, ◌==◌, ◌++◌, suc}
+use Rattle.std.specs.Prelude.{◌≡◌, ℕ, Bool, true, false, List, [], ◌∷◌, if◌then◌else◌, ◌==◌, ◌++◌, suc, nat_le, length}
 use Rattle.sd_model_text.specs.Lists.{split}
-use Rattle.sd_model_stream.specs.Streams.{StreamLine, Line, Long, cut_of, stream_lines}
+use Rattle.sd_model_stream.specs.Streams.{StreamLine, Line, Long, stream_lines}
+use Rattle.sd_model_text.specs.Lines.{longest_datagram}
 
 -- the last of parts; where there is none, no byte
 abbrev pub last_part : List (List ℕ) → List ℕ
@@ -24,7 +25,7 @@ nothing_cut = record { line = Line []; is_ready = false }
 
 -- a line with bytes more behind it
 abbrev pub longer : StreamLine → List ℕ → StreamLine
-longer (Line begun) bytes = cut_of (begun ++ bytes)
+longer (Line begun) bytes = if nat_le (length (begun ++ bytes)) longest_datagram then Line (begun ++ bytes) else Long
 longer Long bytes = Long
 
 -- the line that a cutter has ready, if it has one
@@ -41,7 +42,7 @@ through_newline (b ∷ bytes) = if b == 10 then 1 else suc (through_newline byte
 pub record HasCut (given : List StreamLine) (stream : List ℕ) (c : Cutting) : Type 0 where
   pub lines : given ++ ready_in c ≡ stream_lines stream
   pub ended : c.is_ready ≡ true → rest_of stream ≡ []
-  pub begun : c.is_ready ≡ false → c.line ≡ cut_of (rest_of stream)
+  pub begun : c.is_ready ≡ false → c.line ≡ (if nat_le (length (rest_of stream)) longest_datagram then Line (rest_of stream) else Long)
 
 -- A cutter was given these bytes, and gave these lines, whatever stream it had been given before.
 pub record CutsOn (lines : List StreamLine) (bytes : List ℕ) (old new : Cutting) : Type 0 where

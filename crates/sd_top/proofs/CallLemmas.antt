@@ -1,5 +1,5 @@
 -- What a call answers, by the step that ended it.
-use Rattle.std.proofs.Common.{◌≡◌, ◌⊎◌, List, ℕ, ◌<◌, ◌≤◌, [], ◌∷◌, length, map, Option, Some, None, inl, inr, refl, sym, subst, arith}
+use Rattle.std.proofs.Common.{◌≡◌, List, ℕ, [], Option, Some, None, inl, inr, refl, sym, subst}
 use Rattle.sd_model_outside.specs.Outside.{File, Object}
 use Rattle.sd_model_outside.proofs.OutsideLemmas.{Reads-nil}
 use Rattle.sd_model_settings.specs.Settings as file
@@ -12,7 +12,7 @@ use Rattle.sd_law_record.proofs.AccountingLemmas.{are_accounted}
 use Rattle.sd_model_replay.proofs.HistoryLemmas.{arrivals-history_at, state-history_at}
 use Rattle.sd_model_call.specs.Call.{Form, Replay, Drill, form, Account, Answer, NoForm, Answers, Accounts, IsIdle, IsNotTaken, StopsAmong, ending}
 use Rattle.sd_model_call.specs.Opening.{World, IsAccepted, replay_openings, settled}
-use Rattle.sd_top.specs.Causes.{IsDrill, IsReplay}
+use Rattle.sd_top.specs.Replaying.{IsDrill, IsReplay}
 use Rattle.sd_model_call.proofs.Short.{AnswersReplay, started}
 
 -- no record and no byte
@@ -71,16 +71,6 @@ by_own words asks old new answer asked h =
       theorem = nothing_done new.seen;
       answers = subst (λ (f : Option Form). Answers f answer (idle_account new.seen) old new) (sym asked) h;
     }
-
--- too few words are of no form, and too many
-pub of_no_form : {X : Type 0} (bytes : X → List ℕ) (words : List X) → (length words < 2) ⊎ (4 ≤ length words) → None ≡ form (map bytes words)
-of_no_form bytes [] many = refl
-of_no_form bytes (a ∷ []) many = refl
-of_no_form bytes (a ∷ b ∷ []) (inl few) = absurd (omega (arith, few))
-of_no_form bytes (a ∷ b ∷ []) (inr many) = absurd (omega (arith, many))
-of_no_form bytes (a ∷ b ∷ c ∷ []) (inl few) = absurd (omega (arith, few))
-of_no_form bytes (a ∷ b ∷ c ∷ []) (inr many) = absurd (omega (arith, many))
-of_no_form bytes (a ∷ b ∷ c ∷ d ∷ words) many = refl
 
 -- they ask for a drill, which used nothing but the output
 pub by_drill : (words : List (List ℕ)) (n : ℕ) (old : World) (output : Object) (answer : Answer) → form words ≡ Some (Drill n) → IsDrill n answer old.seen.output output → Accounts words old (record old { seen = record old.seen { output = output } }) answer

@@ -14,11 +14,11 @@ use Rattle.sd_model_call.specs.Drill.{bytes_counted, drill_start, drill_text, dr
 use Rattle.sd_model_call.proofs.DrillEnds.{DrillEnd, drill_totals}
 use Rattle.sd_law_call.proofs.DrillEnds.{drill_ends}
 use Rattle.sd_replay.specs.Ends.{end_of}
-use Rattle.sd_replay.specs.declared.fault.ScriptFault.TheVariants.{Word, Length, Truncated}
+use Rattle.sd_script.specs.declared.fault.ScriptFault.TheVariants.{Word, Length, Truncated}
 use Rattle.sd_replay.specs.declared.run.ReplayEnd.{ReplayEnd}
 use Rattle.sd_replay.specs.declared.run.ReplayEnd.TheVariants as code
 use Rattle.sd_totals.specs.declared.totals.Totals.{Totals as CodeTotals}
-use Rattle.sd_top.specs.Causes.{IsDrill}
+use Rattle.sd_top.specs.Replaying.{IsDrill}
 use Rattle.sd_model_call.proofs.Short.{most_packets}
 
 -- the settings of an empty file

@@ -1,9 +1,4 @@
 mod CallLemmas
 mod DrillLemmas
-mod OpeningLemmas
-mod ReplayOpeningLemmas
-mod ServerOpeningLemmas
-mod SettingsLemmas
-mod WordsLemmas
 mod ServerLemmas
 mod ProxyLemmas

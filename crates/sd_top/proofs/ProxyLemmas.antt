@@ -1,15 +1,11 @@
 -- The proxy: settings that are those of one, and its account.
-use Rattle.std.proofs.Common.{◌≡◌, ℕ, zero, suc, ◌+◌, ◌*◌, ◌<◌, ◌≤◌, Bool, true, false, nat_lt, List, [], ◌∷◌, ◌++◌, length, map, codes, Some, None, inl, inr, refl, sym, ap, subst, ◌∙◌, arith}
-use Rattle.std.specs.Prelude.{◌==◌}
-use Rattle.std.proofs.lemmas.Bool.{cond-true, cond-false}
-use Rattle.std.proofs.lemmas.Bool.Decides.{nat_tests}
+use Rattle.std.proofs.Common.{◌≡◌, ℕ, ◌+◌, List, [], ◌∷◌, ◌++◌, map, codes, None, inl, inr, refl, sym, ap, subst, ◌∙◌}
 use Rattle.sd_model_outside.specs.Outside.{File, Object}
 use Rattle.sd_model_settings.specs.Settings as file
-use Rattle.sd_model_settings.specs.Settings.{OutOfRange, SettingsFlaw}
 use Rattle.sd_model_record.specs.Totals.{totals_text}
 use Rattle.sd_model_call.specs.Opening.{IsAccepted, World, settled}
 use Rattle.sd_model_call.specs.Call.{Answer, StopsAmong, WritesTotals}
-use Rattle.sd_model_call.specs.Proxy.{ProxyAccounts, line_readers, proxy_flaw, proxy_openings, relay_text}
+use Rattle.sd_model_call.specs.Proxy.{ProxyAccounts, proxy_flaw, proxy_openings, relay_text}
 use Rattle.sd_model_call.specs.Server.{ends_answer}
 use Rattle.sd_check.specs.Checking as checking
 use Rattle.sd_outside.specs.declared.datagrams.Ended.{Ended}
@@ -18,34 +14,7 @@ use Rattle.sd_proxy.specs.Views.{end_view}
 use Rattle.sd_relay.specs.declared.relaying.Relayed.{Relayed}
 use Rattle.sd_serve.specs.Serving.{end_of}
 use Rattle.sd_top.specs.Relaying.{HasRelayed, relay_answer, relay_lines}
-use Rattle.sd_model_call.proofs.Short.{proxy_answer, most_wires}
-
-module _ (s : file.Settings) where
-  abbrev wires : ℕ
-  wires = (s.sizes.receivers + line_readers s) * length s.lists.nodes
-
-  -- what keeps the proxy from settings
-  pub no_nodes : length s.lists.nodes ≡ 0 → proxy_flaw s ≡ Some (OutOfRange (codes "nodes"))
-  no_nodes none = cond-true (length s.lists.nodes == 0) _ _ (grind (arith, nat_tests, none))
-
-  pub many_wires : 0 < length s.lists.nodes → most_wires < wires → proxy_flaw s ≡ Some (OutOfRange (codes "receivers"))
-  many_wires some many = cond-false (length s.lists.nodes == 0) _ _ (grind (arith, nat_tests, some)) ∙ cond-true (nat_lt most_wires wires) _ _ (grind (arith, nat_tests, many))
-
-  pub fits : 0 < length s.lists.nodes → wires ≤ most_wires → proxy_flaw s ≡ None
-  fits some few = cond-false (length s.lists.nodes == 0) _ _ (grind (arith, nat_tests, some)) ∙ cond-false (nat_lt most_wires wires) _ _ (grind (arith, nat_tests, few))
-
-  module _ (fit : proxy_flaw s ≡ None) where
-    pub some_nodes : 0 < length s.lists.nodes
-    some_nodes = by_count (length s.lists.nodes) refl where
-      by_count : (n : ℕ) → length s.lists.nodes ≡ n → 0 < length s.lists.nodes
-      by_count zero is = let same : Some (OutOfRange (codes "nodes")) ≡ None = sym (no_nodes is) ∙ fit in absurd (cc)
-      by_count (suc n) is = omega (arith, is)
-
-    pub few_wires : wires ≤ most_wires
-    few_wires = by_test (nat_lt most_wires wires) refl where
-      by_test : (b : Bool) → nat_lt most_wires wires ≡ b → wires ≤ most_wires
-      by_test true is = let same : Some (OutOfRange (codes "receivers")) ≡ None = sym (many_wires some_nodes (grind (arith, nat_tests, is))) ∙ fit in absurd (cc)
-      by_test false is = grind (arith, nat_tests, is)
+use Rattle.sd_model_call.proofs.Short.{proxy_answer}
 
 -- the ends of receivers, as a server's and as a proxy's crate see them
 same_ends : (ends : List Ended) → map end_of ends ≡ map end_view ends

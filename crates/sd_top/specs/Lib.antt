@@ -1,7 +1,3 @@
-pub mod Answers
-pub mod Causes
-pub mod Status
-pub mod Words
-pub mod World
+pub mod Replaying
 pub mod Serving
 pub mod Relaying

@@ -5,65 +5,28 @@ ghost use Rattle.sd_model_call.specs.Call.{Accounts, StopsAmong, form};
 ghost use Rattle.sd_model_call.specs.Server.{AnswersServer};
 ghost use Rattle.sd_model_call.specs.Proxy.{AnswersProxy};
 ghost use Rattle.sd_replay.specs.Ends.{end_of};
-ghost use Rattle.sd_top.specs.Answers.{answer_of};
-ghost use Rattle.sd_top.specs.Causes.{IsReplay};
-ghost use Rattle.sd_top.specs.World.{world_of};
+ghost use Rattle.sd_opening.specs.Answers.{answer_of};
+ghost use Rattle.sd_top.specs.Replaying.{IsReplay};
+ghost use Rattle.sd_opening.specs.World.{world_of};
 
 use crate::drill::drill;
-use crate::opening::open_replay;
+use crate::ends::status_of;
 use crate::proxy::proxy_files;
 use crate::server::serve_files;
-use crate::settings::read_settings;
-use crate::status::{Status, status_of};
-use crate::words::{Form, form_of};
 use log::Log;
 use log::sink::Discard;
 use sd_config::Settings;
+use sd_opening::{Form, Status, World, WorldOf, form_of, open_replay, read_settings};
 use sd_outside::{
-    Address, Backend, Backs, Beat, Clock, Datagrams, Door, Gate, Name, Probe, Sink, Source, Wire,
+    Address, Backend, Beat, Clock, Datagrams, Door, Gate, Name, Probe, Sink, Source, Wire,
 };
 use sd_replay::{ReplayEnd, ReplayRoom, replay};
-use sd_run::names_backend;
-use sd_serve::{ObjectTypes, ObjectTypesOf};
+use sd_run::{ObjectTypes, ObjectTypesOf, names_backend};
 use std::alloc::Global;
 use std::random::RandomSource;
 use std::sync::Wait;
 use std::thread::Threads;
 use std::time;
-
-/// The objects that the program uses. None is opened yet.
-#[derive(Drop)]
-pub struct World<R, O, B, D, L, E, P, G, T, Q, S, W> {
-    pub settings: R,
-    pub script: R,
-    pub output: O,
-    pub backs: Backs<B>,
-    pub packets: Vec<D>,
-    pub wires: Vec<L>,
-    pub door: E,
-    pub beat: P,
-    pub gate: G,
-    pub clock: T,
-    pub probe: Q,
-    pub streams: S,
-    pub log: W,
-}
-
-/// A world of objects of these kinds.
-pub(crate) type WorldOf<K> = World<
-    <K as ObjectTypes>::R,
-    <K as ObjectTypes>::O,
-    <K as ObjectTypes>::B,
-    <K as ObjectTypes>::D,
-    <K as ObjectTypes>::L,
-    <K as ObjectTypes>::E,
-    <K as ObjectTypes>::P,
-    <K as ObjectTypes>::G,
-    <K as ObjectTypes>::T,
-    <K as ObjectTypes>::Q,
-    <K as ObjectTypes>::S,
-    <K as ObjectTypes>::W,
->;
 
 /// Opens what a replay by these settings uses, and executes the script.
 ///

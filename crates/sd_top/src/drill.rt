@@ -1,11 +1,12 @@
 ghost use Rattle.std.specs.Prelude.{◌<◌, ◌≤◌};
 ghost use Rattle.sd_drill.specs.declared.drill.TheConstants.{MOST_PACKETS};
-ghost use Rattle.sd_top.specs.Answers.{answer_of};
-ghost use Rattle.sd_top.specs.Causes.{IsDrill};
+ghost use Rattle.sd_opening.specs.Answers.{answer_of};
+ghost use Rattle.sd_top.specs.Replaying.{IsDrill};
 
-use crate::status::{Status, status_of};
+use crate::ends::status_of;
 use sd_config::Settings;
 use sd_drill::Drill;
+use sd_opening::Status;
 use sd_outside::{Backs, CountSink, Sink, WriteFault};
 use sd_replay::{ReplayEnd, ReplayRoom, replay};
 use sd_totals::write_total;

@@ -1,17 +1,32 @@
-//! How a run of loops is answered: those of receivers, and others.
+//! How a run is answered: that of a replay, and that of loops, of receivers and others.
 ghost use Rattle.std.specs.Prelude.{◌≡◌, ◌+◌, ◌<◌, ◌^◌, length, map, if◌then◌else◌};
 ghost use Rattle.std.specs.List.{list_any};
 ghost use Rattle.sd_model_serve.specs.Receiving.{most_turns};
-ghost use Rattle.sd_model_call.specs.Call.{Done, Worn, cut_answer};
+ghost use Rattle.sd_model_call.specs.Call.{Done, Worn, cut_answer, ending};
 ghost use Rattle.sd_model_call.specs.Server.{by_receivers as first_failed, reached_limit};
+ghost use Rattle.sd_replay.specs.Ends.{end_of as replay_end};
 ghost use Rattle.sd_serve.specs.Serving.{end_of};
-ghost use Rattle.sd_top.specs.Answers.{answer_of};
+ghost use Rattle.sd_opening.specs.Answers.{answer_of};
 
-use crate::status::{Part, Status};
+use sd_opening::{Part, Status};
 use sd_outside::Ended;
+use sd_replay::ReplayEnd;
 
 /// How many turns a loop takes at most.
 const MOST_TURNS: u64 = 1 << 62;
+
+/// What the program answers where a replay ends so.
+pub(crate) fn status_of(end: ReplayEnd) -> Status
+    ensures { answer_of result ≡ ending (replay_end end) }
+{
+    match end {
+        ReplayEnd::Ok(_) => Status::Ok,
+        ReplayEnd::Script(fault) => Status::Script(fault),
+        ReplayEnd::ReadFault => Status::ReadFault { part: Part::Script },
+        ReplayEnd::WriteFault => Status::WriteFault,
+        ReplayEnd::Worn { turns } => Status::Worn { turns },
+    }
+}
 
 /// The status by the receiver of least number that failed, of receivers of which the first has this number; where none failed,
 /// the other status.

@@ -6,24 +6,22 @@ ghost use Rattle.sd_model_call.specs.Server.{ServerAccounts, objects_in, server_
 ghost use Rattle.sd_model_call.specs.Call.{StopsAmong};
 ghost use Rattle.sd_serve.specs.Room.{AreSizes, sizing_of};
 ghost use Rattle.sd_serve.specs.Serving.{HasServed};
-ghost use Rattle.sd_top.specs.Answers.{answer_of};
+ghost use Rattle.sd_opening.specs.Answers.{answer_of};
 ghost use Rattle.sd_top.specs.Serving.{sizing_by};
-ghost use Rattle.sd_top.specs.World.{world_of};
+ghost use Rattle.sd_opening.specs.World.{world_of};
 
-use crate::call::WorldOf;
 use crate::server_end::{finish, totals_lines};
-use crate::server_opening::{open_server, reads_streams};
-use crate::settings::read_settings;
-use crate::status::Status;
-use crate::telling::{tell_end, tell_server, tell_unopened, tell_unread};
-use crate::threads::{has_threads, threads_of_server};
 use log::{LevelFilter, Logged};
 use sd_config::{NamesOf, Settings};
 use sd_flush::RecordForm;
+use sd_opening::{
+    Status, WorldOf, has_threads, open_server, read_settings, reads_streams, tell_end, tell_server,
+    tell_unopened, tell_unread, threads_of_server,
+};
 use sd_outside::{Address, Beat, Clock, Interval, Name};
 use sd_plan::Names;
-use sd_run::{limits_of, names_backend, policy_of, targets_of};
-use sd_serve::{ObjectTypes, RunSettings, Served, ServerObjects, ServerRoom, Sizes, serve};
+use sd_run::{ObjectTypes, limits_of, names_backend, policy_of, targets_of};
+use sd_serve::{RunSettings, Served, ServerObjects, ServerRoom, Sizes, serve};
 use std::alloc::Global;
 use std::random::RandomSource;
 use std::sync::Wait;

@@ -7,13 +7,13 @@ ghost use Rattle.sd_model_call.specs.Server.{reached_limit};
 ghost use Rattle.sd_model_record.specs.Totals.{totals_text as text_of};
 ghost use Rattle.sd_totals.specs.Totals.{totals_view};
 ghost use Rattle.sd_serve.specs.Serving.{door_end_of, end_of};
-ghost use Rattle.sd_top.specs.Answers.{answer_of};
+ghost use Rattle.sd_opening.specs.Answers.{answer_of};
 ghost use Rattle.sd_top.specs.Serving.{ends_of, lines_in, skips_in, totals_in};
 
 use crate::ends::{any_reached_limit, by_receivers, by_turns, cut, took_most_turns};
-use crate::status::{Part, Status};
 use sd_decimal::Line;
 use sd_desk::Desk;
+use sd_opening::{Part, Status};
 use sd_outside::{DoorEnd, Ended, Failed, Sink, write_all};
 use sd_serve::{Ends, OutCounts, Served};
 use sd_shard::ShardBook;

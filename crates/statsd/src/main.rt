@@ -9,7 +9,7 @@
 ghost use Rattle.std.specs.Prelude.{◌≡◌, drop, length, IfOk};
 ghost use Rattle.std.specs.Process.{exit_status};
 ghost use Rattle.sd_model_outside.specs.Outside.{Unknown, fresh};
-ghost use Rattle.sd_top.specs.Status.{exit_code};
+ghost use Rattle.sd_opening.specs.Status.{exit_code};
 
 mod adapter;
 mod backend_out;

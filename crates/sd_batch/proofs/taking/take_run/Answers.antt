@@ -1,7 +1,6 @@
 use Rattle.std.proofs.Common.{◌≡◌, List, [], length, refl, sym, ap, ◌∙◌, arith}
 use Rattle.sd_model_text.specs.Lines.{Sample}
-use Rattle.sd_model_shard.specs.History.{after_all}
-use Rattle.sd_model_shard.specs.Whereabouts.{dropped_in, summed_by}
+use Rattle.sd_model_shard.specs.History.{after_all, dropped_in, summed_by}
 use Rattle.sd_law_shard.specs.Sums.{taken_in}
 use Rattle.sd_shard.specs.Shard.{state_of}
 use Rattle.sd_batch.specs.Runs.{submitted}

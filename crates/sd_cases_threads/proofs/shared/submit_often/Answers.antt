@@ -1,6 +1,6 @@
 use Rattle.std.proofs.Common.{ap, ◌∙◌, arith}
 use Rattle.sd_model_text.specs.Names.{shard}
-use Rattle.sd_model_shard.specs.Whereabouts.{summed_by}
+use Rattle.sd_model_shard.specs.History.{summed_by}
 use Rattle.sd_pool.specs.Pool.{own_at, shards_of}
 use Rattle.sd_cases_threads.specs.Submitted.{answered_in}
 use Rattle.sd_cases_threads.proofs.ReportedLemmas.{summed_by-push}

@@ -1,9 +1,9 @@
 use Rattle.std.proofs.Common.{◌∙◌, ap, Some, None, codes}
 use Rattle.sd_law_settings.specs.Ranges.{IsClasses}
-use Rattle.sd_model_settings.specs.ConfigText.{histogram_line}
 use Rattle.sd_plan.specs.Entries.{classes_view}
 use Rattle.sd_config_text.proofs.ConfigPlaces.{all_at, through, got, got_none}
 use Rattle.sd_config_text.proofs.config_lines.histogram_at.Goals as goal
+use Rattle.sd_model_settings.proofs.Short.{histogram_line}
 
 pub histogram_line-requires : goal.histogram_line-requires
 histogram_line-requires c = all_at classes_view IsClasses c.args.histogram.now c.args.place c.in-Some.classes.now c.requires.range (got c.args.histogram.now c.args.place c.in-Some.classes c.in-Some.ensures.lookup)

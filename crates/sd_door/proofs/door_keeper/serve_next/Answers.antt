@@ -1,13 +1,14 @@
 use Rattle.std.proofs.Common.{Bool, cond, List, [], sym, ap, subst, append-nil, arith}
 use Rattle.sd_model_record.specs.DeskHistory.{DeskCall}
 use Rattle.sd_model_outside.specs.Outside.{Object}
-use Rattle.sd_model_record.specs.Totals.{Among, IsKeeperCall, Amounts}
+use Rattle.sd_model_record.specs.Totals.{Among, IsKeeperCall}
 use Rattle.sd_shared_desk.specs.Counts.{Part, HasCalled, HasCounted, of_sessions, plus}
 use Rattle.sd_shared_desk.proofs.CountLemmas.{counted_next, counted_none}
 use Rattle.sd_shared_desk.specs.Shared.{part_of}
 use Rattle.sd_door.proofs.DoorLemmas.{called_behind, called_fault, called_not, called_so, none_counted}
 use Rattle.sd_door.proofs.KeepLemmas.{HasKept-none, HasKept-failed, HasKept-one}
 use Rattle.sd_door.proofs.door_keeper.serve_next.Goals as goal
+use Rattle.sd_desk.specs.Sums.{Amounts}
 
 pub returns-in-Idle-clause-kept : goal.returns-in-Idle-clause-kept
 returns-in-Idle-clause-kept g c =

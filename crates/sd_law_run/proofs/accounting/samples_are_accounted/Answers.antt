@@ -1,8 +1,8 @@
 use Rattle.sd_model_replay.proofs.AccountingLemmas.{all_homes}
 use Rattle.sd_law_record.proofs.AccountingLemmas.{are_accounted}
 use Rattle.sd_model_replay.proofs.HistoryLemmas.{arrivals-history_at, state-history_at}
-use Rattle.sd_model_replay.specs.Replay.{samples_at}
 use Rattle.sd_law_run.proofs.accounting.samples_are_accounted.Goals as goal
+use Rattle.sd_model_replay.proofs.Short.{samples_at}
 
 pub returns-clause-accounted : goal.returns-clause-accounted
 returns-clause-accounted c settings played = are_accounted settings played

@@ -1,5 +1,5 @@
 use Rattle.std.proofs.Common.{subst, sym}
-use Rattle.sd_model_serve.specs.Doors.{asked_by}
+use Rattle.sd_model_serve.specs.Sessions.{asked_by}
 use Rattle.sd_session.specs.Commands.{AreCommands}
 use Rattle.sd_model_serve.proofs.ServedLemmas.{events_of_acts}
 use Rattle.sd_model_run.specs.Run.{brought_in, rounds_in}

@@ -1,9 +1,9 @@
 use Rattle.std.proofs.Common.{refl}
-use Rattle.sd_model_record.specs.Desk.{with_tally, taken, marked, with_admin_fault, with_repeater_faults}
 use Rattle.sd_shared_desk.specs.Counts.{of_tally, of_taken, of_marks, of_sessions, of_sends}
 use Rattle.sd_shared_desk.proofs.CountLemmas.{adds_tally, adds_taken, grew_tally, grew_taken, grew_marks, grew_sessions, grew_sends, keeps_by, keeps_next, new_in_range, none_in_range, sum_in_range}
 use Rattle.sd_law_run.proofs.desk.desks_keep_counts.Goals as goal
 use Rattle.sd_model_record.proofs.Short.{with_round}
+use Rattle.sd_desk.specs.Steps.{with_tally, taken, marked, with_admin_fault, with_repeater_faults}
 
 pub returns-clause-start : goal.returns-clause-start
 returns-clause-start c = λ start. (refl, new_in_range start)

@@ -1,9 +1,9 @@
 use Rattle.std.proofs.Common.{◌+◌, length}
 use Rattle.std.specs.Prelude.{count_by}
-use Rattle.sd_model_proxy.specs.Routes.{lines_not_sent, lines_sent, over_nodes, is_bad, is_unowned}
+use Rattle.sd_model_proxy.specs.Routes.{over_nodes, is_bad, is_unowned}
 use Rattle.sd_model_proxy.proofs.TotalLemmas.{all_fates, counted_fates}
 use Rattle.sd_model_proxy.proofs.totals.lines_have_one_fate.Goals as goal
-use Rattle.sd_model_proxy.proofs.Short.{long_in, routes_of}
+use Rattle.sd_model_proxy.proofs.Short.{long_in, routes_of, lines_sent, lines_not_sent}
 
 pub returns-clause-lines : goal.returns-clause-lines
 returns-clause-lines c most nodes packets = all_fates most nodes

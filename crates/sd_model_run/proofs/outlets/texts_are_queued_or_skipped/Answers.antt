@@ -1,8 +1,7 @@
 use Rattle.std.proofs.Common.{◌≡◌, ◌⊎◌, ℕ, ◌<◌, ◌≤◌, Bool, true, false, List, ◌∷◌, [], length, map, inl, inr, arith, length-append}
 use Rattle.std.proofs.lemmas.List.{length-map}
 use Rattle.sd_model_outside.specs.Uses.{Delivery}
-use Rattle.sd_model_serve.specs.Rounds.{round_text}
-use Rattle.sd_model_run.specs.Outlets.{AreChosen, OutletRoom, chosen}
+use Rattle.sd_model_serve.specs.Rounds.{round_text, OutletRoom, AreChosen, chosen}
 use Rattle.sd_model_run.proofs.outlets.texts_are_queued_or_skipped.Goals as goal
 use Rattle.sd_model_run.proofs.Short.{MayBeSkipped}
 

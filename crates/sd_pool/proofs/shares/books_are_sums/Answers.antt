@@ -1,6 +1,6 @@
 use Rattle.std.proofs.Common.{ℕ, min, sym, ap, ◌∙◌}
 use Rattle.sd_model_shard.specs.Shard.{last_number}
-use Rattle.sd_model_shard.specs.Whereabouts.{dropped_in}
+use Rattle.sd_model_shard.specs.History.{dropped_in}
 use Rattle.sd_law_shard.specs.Sums.{taken_in, flushed_in, deleted_in}
 use Rattle.sd_law_shard.proofs.NumberLemmas.{sums_are_reported}
 use Rattle.sd_pool.specs.Pool.{limits_of, policy_of}

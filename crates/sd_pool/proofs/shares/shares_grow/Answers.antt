@@ -2,8 +2,7 @@ use Rattle.std.proofs.Common.{◌≡◌, ℕ, ◌+◌, Bool, true, false, eqb, c
 use Rattle.std.proofs.lemmas.Bool.{eqb-true, eq-eqb}
 use Rattle.std.proofs.lemmas.List.Sums.{sum_by-append, sum_by-cons}
 use Rattle.sd_model_shard.specs.Shard.{Reply}
-use Rattle.sd_model_shard.specs.History.{Act, History}
-use Rattle.sd_model_shard.specs.Whereabouts.{summed_by}
+use Rattle.sd_model_shard.specs.History.{Act, History, summed_by}
 use Rattle.sd_pool.specs.Adding.{one_at}
 use Rattle.sd_pool.specs.Pool.{own_at}
 use Rattle.sd_pool.proofs.shares.shares_grow.Goals as goal

@@ -7,16 +7,16 @@ use Rattle.sd_model_outside.proofs.WriteLemmas.{given-given}
 use Rattle.std.specs.Prelude.{sum_by, true, false, is_err, Result, Ok, Err, OnOk, OnErr}
 use Rattle.sd_model_shard.specs.Shard.{table_of}
 use Rattle.sd_model_record.specs.Backends.{console_text, graphite_text, Backend, Graphite, Console, text_of, mark_of as mark_at}
-use Rattle.sd_model_record.specs.Desk.{Desk, Marks, new_desk, with_tally, with_repeater_faults}
+use Rattle.sd_model_record.specs.Desk.{Desk, Marks, new_desk}
 use Rattle.sd_model_record.specs.Admin as admin
 use Rattle.sd_model_settings.specs.Settings.{Plan, plan_of, names_of, Settings}
-use Rattle.sd_model_replay.specs.Replay.{bounds_of, is_used, limits_of, targets_of, packet_tally, replies_to, states_after, Played, moment_of, desk_after_line, first_run, run_of}
+use Rattle.sd_model_replay.specs.Replay.{bounds_of, is_used, limits_of, targets_of, replies_to, states_after, Played, moment_of, desk_after_line, first_run, run_of}
 use Rattle.sd_model_record.specs.Record.{Record, record_of}
 use Rattle.sd_model_replay.specs.Script.{Packet, Flush, Admin, IsLegal, end_word, Faulty, Begins, IsUndecided}
 use Rattle.sd_model_replay.specs.AccountingTheorem.{output_in, output_of, Seen, seen_at}
 use Rattle.sd_replay.specs.Replayed.{Replayed}
 use Rattle.sd_shards.specs.Shards.{Group, AreAlike, group_bounds, numbers, state_at}
-use Rattle.sd_model_shard.specs.Whereabouts.{dropped_in}
+use Rattle.sd_model_shard.specs.History.{dropped_in}
 use Rattle.sd_replay.specs.Ends.{end_of}
 use Rattle.sd_desk.specs.Marks.{marks_of}
 use Rattle.sd_plan.specs.Entries.{target_view}
@@ -27,7 +27,7 @@ use Rattle.sd_script.specs.Reading.{left}
 use Rattle.sd_script.specs.Reads.{ReadsItem}
 use Rattle.sd_replay.specs.Room.{Sizing, HasRoom, HoldsRows, sizing_of}
 use Rattle.sd_replay.specs.RoomInside.{sizing_in}
-use Rattle.sd_replay.specs.Seen.{back_of, seen_of}
+use Rattle.sd_run.specs.Seen.{back_of, seen_of}
 use Rattle.sd_totals.specs.Totals.{totals_view}
 use Rattle.sd_outside.specs.declared.backend.Backs.{Backs}
 use Rattle.sd_script.specs.declared.reader.Item.{Item}
@@ -38,6 +38,8 @@ use Rattle.sd_replay.specs.Start.{start_in}
 use Rattle.sd_replay.proofs.PlayLemmas.{count_by, still_go, given-nil, nothing_played, completes, writes_part, replies_part, finds_flaw, fails_to_read, wears_out, desk_before, desk_at_end, packet_more, flush_more, line_more, line_played, line_replied, quiet}
 use Rattle.sd_replay.proofs.run.replay.Goals as goal
 use Rattle.sd_replay.proofs.run.replay.Goals.{in-Ok-finish, in-Err, in-Packet, in-Flush, in-Admin+else-is_err}
+use Rattle.sd_model_replay.proofs.Short.{packet_tally}
+use Rattle.sd_desk.specs.Steps.{with_tally, with_repeater_faults}
 
 -- a backend is seen as the one of its name
 back_seen : {R O B L : Type 0} (of_script : R → Object) (of_output : O → Object) (of_back : B → Object) (of_wire : L → Object) (script : R) (output : O) (backs : Backs B) (wires : List L) (back : Backend)

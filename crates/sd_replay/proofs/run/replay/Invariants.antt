@@ -9,7 +9,7 @@ use Rattle.sd_shards.specs.Shards.{Group, state_at}
 use Rattle.sd_script.specs.Reading.{Reading, left}
 use Rattle.sd_record.specs.Rows.{Room}
 use Rattle.sd_replay.specs.Room.{HasRoom, HoldsRows}
-use Rattle.sd_replay.specs.Seen.{back_of}
+use Rattle.sd_run.specs.Seen.{back_of}
 use Rattle.sd_replay.proofs.PlayLemmas.{Progress, GoBy}
 use Rattle.sd_replay.proofs.run.replay.Given as goal
 

@@ -2,7 +2,6 @@ use Rattle.std.proofs.Common.{◌≤◌, List, [], ◌∷◌, ◌++◌, All, map
 use Rattle.std.specs.Prelude.{get_or, min}
 use Rattle.std.specs.List.{AllByRecursion}
 use Rattle.std.proofs.lemmas.List.Elements.{All-from_recursion}
-use Rattle.sd_model_record.specs.Totals.{Count, number_of}
 use Rattle.sd_pool.specs.Books.{no_book}
 use Rattle.sd_pool.specs.Pool.{IsSeatOf as IsPoolSeatOf, ShardHistory}
 use Rattle.sd_pool.specs.declared.seat.Seat.{Seat}
@@ -14,6 +13,7 @@ use Rattle.sd_serve.specs.Services.{all_owns, prefix_owns, prefix_seats}
 use Rattle.sd_serve.proofs.RoomLemmas.{put_back}
 use Rattle.sd_serve.proofs.crew.close.Goals as goal
 use Rattle.sd_model_shard.specs.Shard.{last_number}
+use Rattle.sd_desk.specs.Sums.{Count, number_of}
 
 pub close-requires-clause-seats : goal.close-requires-clause-seats
 close-requires-clause-seats g c =

@@ -2,13 +2,14 @@ use Rattle.std.proofs.Common.{◌≡◌, Bool, List, [], ◌∷◌, ◌++◌, le
 use Rattle.std.specs.Prelude.{IfSome}
 use Rattle.std.proofs.lemmas.List.{map-append}
 use Rattle.sd_key.specs.Kind.{kind_of}
-use Rattle.sd_model_shard.specs.Rows.{RowId, Kept, DumpRow, is_of_kind, dump_row}
+use Rattle.sd_model_shard.specs.Rows.{RowId, Kept, DumpRow, is_of_kind}
 use Rattle.sd_rows.specs.Rows.{row_seen}
 use Rattle.sd_epoch.specs.Table.{fresh, row_view}
 use Rattle.sd_shard.specs.Dump.{DumpList, dump_row_of, rows_of}
 use Rattle.sd_shard.proofs.CommandLemmas.{filter-hit, filter-miss, there, reported-push}
 use Rattle.sd_shard.proofs.commands.push_rows.Goals as goal
 use Rattle.sd_shard.proofs.commands.push_rows.Goals.{then-is_of_kind, else-is_of_kind}
+use Rattle.sd_model_shard.proofs.Short.{dump_row}
 
 pub loop-i-preserved : goal.loop-i-preserved
 loop-i-preserved c =

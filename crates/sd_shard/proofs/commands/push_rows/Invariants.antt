@@ -1,8 +1,9 @@
 use Rattle.std.proofs.Common.{◌≡◌, ◌≤◌, ◌++◌, filter, length, map, take}
-use Rattle.sd_model_shard.specs.Rows.{is_of_kind, dump_row}
+use Rattle.sd_model_shard.specs.Rows.{is_of_kind}
 use Rattle.sd_key.specs.Kind.{kind_of}
 use Rattle.sd_shard.specs.Dump.{rows_of}
 use Rattle.sd_shard.proofs.commands.push_rows.Given as goal
+use Rattle.sd_model_shard.proofs.Short.{dump_row}
 
 -- the rows so far
 abbrev pub invariant-loop-i : goal.invariant-loop-i

@@ -3,8 +3,8 @@ use Rattle.sd_replay.specs.Replayed.{Replayed}
 use Rattle.sd_model_call.specs.Call.{StopsAmong}
 use Rattle.sd_model_call.specs.Opening.{World, flags_of, replay_openings, settled}
 use Rattle.sd_replay.specs.Ends.{end_of}
-use Rattle.sd_top.specs.Answers.{answer_of}
-use Rattle.sd_top.specs.World.{world_of}
+use Rattle.sd_opening.specs.Answers.{answer_of}
+use Rattle.sd_opening.specs.World.{world_of}
 use Rattle.sd_top.proofs.CallLemmas.{by_settings, by_opening, by_replay}
 use Rattle.sd_top.proofs.call.replay_files.Goals as goal
 use Rattle.sd_model_call.proofs.Short.{started}

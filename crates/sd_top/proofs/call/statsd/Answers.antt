@@ -1,8 +1,8 @@
 use Rattle.std.proofs.Common.{◌≡◌, Option, Some, map, string_bytes, refl, sym, ap, ◌∙◌, option_map}
 use Rattle.sd_model_call.specs.Call as model
 use Rattle.sd_model_call.proofs.WordsLemmas.{drill_read}
-use Rattle.sd_top.specs.Words.{form_view}
-use Rattle.sd_top.specs.declared.words.Form.{Form}
+use Rattle.sd_opening.specs.Words.{form_view}
+use Rattle.sd_opening.specs.declared.words.Form.{Form}
 use Rattle.sd_top.proofs.CallLemmas.{by_words, by_files, by_own, by_drill}
 use Rattle.sd_top.proofs.call.statsd.Goals as goal
 

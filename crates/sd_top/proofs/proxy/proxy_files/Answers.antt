@@ -2,9 +2,9 @@ use Rattle.std.proofs.Common.{◌≡◌, None, [], inl, refl, ap, subst, rules}
 use Rattle.sd_model_call.specs.Opening.{World, flags_of, settled}
 use Rattle.sd_model_call.specs.Proxy.{proxy_flaw, proxy_openings}
 use Rattle.sd_model_call.specs.Call.{NoMemory, StopsAmong, WritesTotals}
-use Rattle.sd_top.specs.Answers.{answer_of}
+use Rattle.sd_opening.specs.Answers.{answer_of}
 use Rattle.sd_top.specs.Relaying.{HasRelayed, relay_answer, relay_lines}
-use Rattle.sd_top.specs.World.{world_of}
+use Rattle.sd_opening.specs.World.{world_of}
 use Rattle.sd_top.proofs.ProxyLemmas.{proxy_ran, proxy_stopped}
 use Rattle.sd_top.proofs.proxy.proxy_files.Goals as goal
 

@@ -11,9 +11,9 @@ use Rattle.sd_proxy.specs.Views.{end_view}
 use Rattle.sd_relay.specs.Relaying as relaying
 use Rattle.sd_relay.specs.Relaying.{lines_in, receivers_in}
 use Rattle.sd_relay.specs.Room.{IsClearRoom, IsRoomFor}
-use Rattle.sd_top.specs.World.{world_of}
-use Rattle.sd_top.proofs.OpeningLemmas.{where_kept}
-use Rattle.sd_top.proofs.ProxyLemmas.{few_wires}
+use Rattle.sd_opening.specs.World.{world_of}
+use Rattle.sd_opening.proofs.OpeningLemmas.{where_kept}
+use Rattle.sd_opening.proofs.ProxyOpeningLemmas.{few_wires}
 use Rattle.sd_top.proofs.proxy.run_proxy.Goals as goal
 use Rattle.sd_model_call.proofs.Short.{check_interval, proxy_begun}
 use Rattle.sd_model_outside.proofs.Short.{with_interval}

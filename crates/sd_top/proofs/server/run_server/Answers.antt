@@ -10,8 +10,8 @@ use Rattle.sd_flush.specs.Flushing.{back_of, uses_by}
 use Rattle.sd_outside.specs.declared.backend.Backs.{Backs}
 use Rattle.sd_serve.specs.Room.{outlets_of, sizing_in, start_in}
 use Rattle.sd_serve.specs.Serving.{HasServed, end_of, objects_of, run_settings_in}
-use Rattle.sd_top.specs.World.{world_of}
-use Rattle.sd_top.proofs.OpeningLemmas.{where_kept}
+use Rattle.sd_opening.specs.World.{world_of}
+use Rattle.sd_opening.proofs.OpeningLemmas.{where_kept}
 use Rattle.sd_top.proofs.server.run_server.Goals as goal
 use Rattle.sd_model_call.proofs.Short.{flush_interval, server_begun}
 use Rattle.sd_model_outside.proofs.Short.{with_interval}

@@ -2,9 +2,9 @@ use Rattle.std.proofs.Common.{◌≡◌, [], inl, inr, refl, ap, subst, ◌∙�
 use Rattle.sd_model_call.specs.Opening.{World, flags_of}
 use Rattle.sd_model_call.specs.Call.{WritesTotals}
 use Rattle.sd_model_call.specs.Server.{server_openings}
-use Rattle.sd_top.specs.Answers.{answer_of}
+use Rattle.sd_opening.specs.Answers.{answer_of}
 use Rattle.sd_top.specs.Serving.{ends_of, lines_in}
-use Rattle.sd_top.specs.World.{world_of}
+use Rattle.sd_opening.specs.World.{world_of}
 use Rattle.sd_top.proofs.ServerLemmas.{has_served}
 use Rattle.sd_top.proofs.server.serve_files.Goals as goal
 

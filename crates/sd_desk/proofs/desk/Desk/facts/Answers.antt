@@ -1,6 +1,5 @@
 use Rattle.std.proofs.Common.{◌≤◌, subst}
-use Rattle.sd_model_record.specs.Totals.{Count, TotalPackets, TotalLines, TotalBad, TotalDropped, TakenPackets, TakenLines, TakenBad, TakenDropped, RoundsMade, GraphiteFaults, ConsoleFaults, RepeaterFaults, AdminFaults, number_of}
-use Rattle.sd_desk.specs.Sums.{IsInRange}
+use Rattle.sd_desk.specs.Sums.{IsInRange, Count, number_of, TotalPackets, TotalLines, TotalBad, TotalDropped, TakenPackets, TakenLines, TakenBad, TakenDropped, RoundsMade, GraphiteFaults, ConsoleFaults, RepeaterFaults, AdminFaults}
 use Rattle.sd_desk.specs.Desk.{IsDesk, desk_of}
 use Rattle.sd_desk.specs.declared.desk.Desk.TheInside.{Inside}
 use Rattle.sd_desk.proofs.desk.Desk.facts.Goals as goal

@@ -1,9 +1,9 @@
 use Rattle.std.proofs.Common.{◌≡◌, ap, subst, sym, arith}
-use Rattle.sd_model_shard.specs.Rows.{listed_in as samples_listed}
 use Rattle.sd_epoch.specs.Table.{Listing, live_of}
 use Rattle.sd_epoch.proofs.OrderLemmas.{ranked_different}
 use Rattle.sd_epoch.proofs.SumLemmas.{entries_are}
 use Rattle.sd_epoch.proofs.table.Table.entries.Goals as goal
+use Rattle.sd_model_shard.proofs.Short.{listed_in as samples_listed}
 
 pub returns-clause-listed : goal.returns-clause-listed
 returns-clause-listed c =

@@ -1,9 +1,10 @@
 use Rattle.std.proofs.Common.{◌≡◌, ap, ◌∙◌, arith}
-use Rattle.sd_model_shard.specs.Rows.{is_hit, rows_left, rows_taken_out, samples_in, listed_in}
+use Rattle.sd_model_shard.specs.Rows.{is_hit, rows_left, rows_taken_out, samples_in}
 use Rattle.sd_key.specs.Kind.{kind_of}
 use Rattle.sd_epoch.specs.Table.{Listing, live_of}
 use Rattle.sd_epoch.proofs.ForgottenLemmas.{entries_parted, few_left, held_is, live_now, samples_parted, table_now}
 use Rattle.sd_epoch.proofs.table.Table.forget_rows.Goals as goal
+use Rattle.sd_model_shard.proofs.Short.{listed_in}
 
 pub samples_at-self-inside-requires-clause-few : goal.samples_at-self-inside-requires-clause-few
 samples_at-self-inside-requires-clause-few c = few_left c.self.inside c.self.invariant (is_hit (kind_of c.args.kind) c.args.pattern.now) _ _ _ _ c.drop_hits.ensures.left c.close_up.ensures _ _ c.deref.ensures.value c.drop_hits.ensures.tallies

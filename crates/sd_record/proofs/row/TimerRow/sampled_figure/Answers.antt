@@ -1,11 +1,11 @@
 use Rattle.std.proofs.Common.{◌-◌, ◌*◌, ◌/◌, length, slice_get, Some, ap, sym, ◌∙◌, arith}
 use Rattle.std.proofs.lemmas.List.{length-map}
 use Rattle.std.proofs.lemmas.Simd.{map-map}
-use Rattle.sd_model_record.specs.Record.{bin_figure}
 use Rattle.sd_stats.specs.Timer.{part_of, whole_of}
 use Rattle.sd_record.specs.Row.{bin_view, timer_view}
 use Rattle.sd_record.proofs.FigureLemmas.{length-sampled, got_at, at_part, at_whole, at_bin}
 use Rattle.sd_record.proofs.row.TimerRow.sampled_figure.Goals as goal
+use Rattle.sd_model_record.proofs.Short.{bin_figure}
 
 pub returns-then-i-of_parts : goal.returns-then-i-of_parts
 returns-then-i-of_parts c =

@@ -1,8 +1,7 @@
 use Rattle.std.proofs.Common.{refl, sym, ap, ◌∙◌, rules}
 use Rattle.sd_shared_desk.specs.Counts.{nothing}
 use Rattle.std.specs.Prelude.{flat_map}
-use Rattle.sd_model_serve.specs.Doors.{ends_by_fault, line_calls}
-use Rattle.sd_model_serve.specs.Sessions.{lines_in}
+use Rattle.sd_model_serve.specs.Sessions.{ends_by_fault, line_calls, lines_in}
 use Rattle.sd_session.proofs.visiting.AdminVisitorVisitor.visit.Goals as goal
 
 pub returns-clause-visited : goal.returns-clause-visited

@@ -1,6 +1,6 @@
 use Rattle.std.proofs.Common.{filter, map, subst}
 use Rattle.sd_key.specs.Kind.{kind_of}
-use Rattle.sd_model_shard.specs.Rows.{RowId, Kept, is_of_kind, dump_row, dump_of}
+use Rattle.sd_model_shard.specs.Rows.{RowId, Kept, is_of_kind, dump_of}
 use Rattle.sd_model_shard.specs.Shard.{Dumped}
 use Rattle.sd_model_shard.proofs.ListedLemmas.{reported_permutes}
 use Rattle.sd_epoch.specs.Table.{live_of}
@@ -8,6 +8,7 @@ use Rattle.sd_epoch.proofs.ForgetLemmas.{StandApart-rows}
 use Rattle.sd_shard.specs.Dump.{rows_of}
 use Rattle.sd_shard.specs.Shard.{Standing, IsDump}
 use Rattle.sd_shard.proofs.shard.Shard.dump.Goals as goal
+use Rattle.sd_model_shard.proofs.Short.{dump_row}
 
 pub returns-clause-answer : goal.returns-clause-answer
 returns-clause-answer c =

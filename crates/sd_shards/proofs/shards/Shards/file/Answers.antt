@@ -1,7 +1,7 @@
 use Rattle.std.proofs.Common.{◌≡◌, ℕ, ◌<◌, length, sym, ap, subst, ◌∙◌, arith}
 use Rattle.std.specs.Prelude.{sum_by}
 use Rattle.std.proofs.lemmas.List.{length-map}
-use Rattle.sd_model_shard.specs.Whereabouts.{dropped_in}
+use Rattle.sd_model_shard.specs.History.{dropped_in}
 use Rattle.sd_model_replay.specs.Script.{Packet}
 use Rattle.sd_model_replay.specs.Replay.{replies_to, states_after}
 use Rattle.sd_law_shards.proofs.HomeLemmas.{AtHome-after}

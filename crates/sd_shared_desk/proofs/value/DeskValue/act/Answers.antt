@@ -1,8 +1,8 @@
 use Rattle.std.proofs.Common.{refl, sym, ap, subst, ◌∙◌}
-use Rattle.sd_model_record.specs.Desk.{taken}
 use Rattle.sd_shared_desk.specs.declared.ask.DeskReply.TheVariants.{Took, Reported}
 use Rattle.sd_shared_desk.specs.Asks.{Does}
 use Rattle.sd_shared_desk.proofs.value.DeskValue.act.Goals as goal
+use Rattle.sd_desk.specs.Steps.{taken}
 
 pub returns-in-Take-clause-does : goal.returns-in-Take-clause-does
 returns-in-Take-clause-does c =

@@ -1,0 +1,52 @@
+-- Why a step before a run ended the call, and what was done by then.
+use Rattle.std.specs.Prelude.{◌≡◌, ◌⊎◌, ℕ, ◌+◌, Bool, true, List, [], ◌∷◌, length, Err, if◌then◌else◌}
+use Rattle.sd_model_outside.specs.Outside.{Object, Place, File, HasFailed, opened}
+use Rattle.sd_model_settings.specs.Settings.{SettingsFlaw, settings}
+use Rattle.sd_model_call.specs.Opening.{Flags, OfConsole, OfGraphite, Part, longest_file}
+use Rattle.sd_model_call.specs.Call.{Answer, NoMemory, Misset, NotOpened}
+
+-- an object wasn't opened: no memory was left, or it failed
+abbrev pub IsNotOpened : Part → Answer → Object → Object → Type 0
+IsNotOpened part answer old new = (answer ≡ NoMemory) × (new ≡ old) ⊎ (answer ≡ NotOpened part) × HasFailed old new
+
+-- an object that is used wasn't opened
+abbrev pub WhereStops : Bool → Part → Answer → Object → Object → Type 0
+WhereStops used part answer old new = (used ≡ true) × IsNotOpened part answer old new
+
+-- an object that was opened at this place, where it is used
+abbrev pub opened_where : Bool → Place → Object → Object
+opened_where used place o = if used then opened place o else o
+
+-- the backends that are used were opened: Graphite at this place, and the console at the empty name
+abbrev pub AreOpened : Flags → Place → (graphite console graphite_now console_now : Object) → Type 0
+AreOpened flags place graphite console graphite_now console_now =
+    (graphite_now ≡ opened_where flags.graphite place graphite) × (console_now ≡ opened_where flags.console (File []) console)
+
+-- of the backends that are used one wasn't opened: Graphite at this place; or Graphite was, and the console wasn't
+abbrev pub BackStops : Flags → Place → Answer → (graphite console graphite_now console_now : Object) → Type 0
+BackStops flags place answer graphite console graphite_now console_now =
+    WhereStops flags.graphite OfGraphite answer graphite graphite_now × (console_now ≡ console)
+    ⊎ (graphite_now ≡ opened_where flags.graphite place graphite) × WhereStops flags.console OfConsole answer console console_now
+
+-- a settings file with these bytes gives no values: no memory was left, or it has a flaw
+abbrev pub IsRefused : Answer → List ℕ → Type 0
+IsRefused answer bytes = (answer ≡ NoMemory) ⊎ ((flaw : SettingsFlaw) × (answer ≡ Misset flaw) × (settings bytes ≡ Err flaw))
+
+-- a buffer has just room for the bytes that decide what a settings file says
+abbrev pub HoldsDeciding : List ℕ → Type 0
+HoldsDeciding buf = length buf ≡ longest_file + 1
+
+-- objects of which each place has one, which is opened there; those behind them are as they were
+abbrev pub opened_each : List Place → List Object → List Object
+opened_each [] objects = objects
+opened_each (p ∷ places) [] = []
+opened_each (p ∷ places) (o ∷ objects) = opened p o ∷ opened_each places objects
+
+-- objects, each a part by its number from this one on, weren't all opened at their places: those before one were, and that one
+-- wasn't; or no memory was left for it
+abbrev pub EachStops : (ℕ → Part) → ℕ → List Place → Answer → List Object → List Object → Type 0
+EachStops part i (p ∷ places) answer (o ∷ old) (n ∷ new) =
+    IsNotOpened (part i) answer o n × (new ≡ old) ⊎ (n ≡ opened p o) × EachStops part (i + 1) places answer old new
+EachStops part i [] answer old new = ⊥
+EachStops part i (p ∷ places) answer [] new = ⊥
+EachStops part i (p ∷ places) answer (o ∷ old) [] = ⊥

@@ -1,0 +1,5 @@
+pub mod Answers
+pub mod Causes
+pub mod Status
+pub mod Words
+pub mod World
