@@ -1,9 +1,6 @@
-//! Cases of values: of numbers, names, datagrams, statistics, rings and the rows of a table, and of settings, shards, tables and
-//! records. Reads a call and its arguments from each line, makes the call, and prints the line with its answer, as in
-//! `read 0.0000005 = 1`. Quantities are whole millionths. A line that begins with a number is a table of so many places, with the
-//! calls on it. A line of a shard or a table of samples reads as in `shard 2/3 none a:1|c swap book`: the limits on rows and entries,
-//! what else it is opened with, and then steps, each of which is answered on a line. A line of settings has a file, and asks for
-//! values, as in `file FILE CALLS`, `all FILE` and `config FILE`.
+//! Cases of values: of numbers, names, datagrams, statistics, rings and the rows of a table. Reads a call and its arguments from each
+//! line, makes the call, and prints the line with its answer, as in `read 0.0000005 = 1`. Quantities are whole millionths. A line that
+//! begins with a number is a table of so many places, with the calls on it.
 #![tactic(auto)]
 
 mod datagrams;
@@ -11,18 +8,10 @@ mod many_rows;
 mod members;
 mod names;
 mod numbers;
-mod read_calls;
-mod records;
 mod rings;
-mod rooms;
 mod row_calls;
 mod row_tables;
-mod samples;
-mod settings;
-mod shards;
-mod tables;
 mod timers;
-mod turns;
 mod values;
 
 use crate::rings::Asked;
@@ -43,19 +32,6 @@ fn call(alloc: Global, words: &[&str], out: &mut Answer) -> Result<(), Refusal> 
         [places, calls @ ..] if let Ok(places) = places.parse::<u32>() => {
             row_tables::calls_of(alloc, places, calls, out)
         }
-        ["shard", limits, kinds, steps @ ..] => {
-            shards::steps_on_shard(alloc, limits, kinds, steps, out)
-        }
-        ["table", limits, settings, ts, tally, steps @ ..] => {
-            tables::steps_on_table(alloc, limits, &[settings, ts, tally], steps, out)
-        }
-        ["room", file] => rooms::open_room(alloc, file, out),
-        ["plain"] => settings::show_plain(out),
-        [
-            call @ ("file" | "all" | "allowed" | "config" | "config_text" | "plan" | "names"),
-            file,
-            calls @ ..,
-        ] => settings::ask(alloc, call, file, calls, out),
         _ => {
             out.text(" = ");
             call_of_values(alloc, words, out)
@@ -73,7 +49,6 @@ fn call_of_values(alloc: Global, words: &[&str], out: &mut Answer) -> Result<(),
         ["pct", threshold, values @ ..] => timers::pct(alloc, threshold, values, out),
         ["bin", from, below, values @ ..] => timers::bin(alloc, from, below, values, out),
         ["distinct", members @ ..] => members::distinct_of(alloc, members, out),
-        ["goes_idle", kinds, kind, swaps] => shards::expires(kinds, kind, swaps, out),
         [call, argument] => call_of_one(alloc, call, argument, out),
         [call, first, second] => call_of_two(alloc, call, first, second, out),
         _ => Err(Refusal::UnknownCall),

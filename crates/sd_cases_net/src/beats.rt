@@ -1,6 +1,6 @@
-use crate::common::{step, stop_name};
 use log::LevelFilter;
 use sd_case::Answer;
+use sd_case_net::{step, stop_name};
 use sd_net::{Pace, RunLog, Stop, SystemClock, TickBeat};
 use sd_outside::{Beat, Clock, Interval, Tick};
 use std::thread::{Threads, join, sleep};

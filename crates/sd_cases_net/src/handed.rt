@@ -1,12 +1,10 @@
 ghost use Rattle.std.specs.Prelude.{◌≤◌, length};
 ghost use Rattle.sd_outside.specs.Turns.{most_datagram};
 
-use crate::clients::client_of;
-use crate::common::{datagrams_here, here, opening_text, room, socket_here, step};
-use crate::doors::SIZES;
 use crate::receivers::{ask, wait};
 use log::LevelFilter;
 use sd_case::Answer;
+use sd_case_net::{SIZES, client_of, datagrams_here, here, opening_text, room, socket_here, step};
 use sd_net::{RunLog, Sockets, Stop, TcpDoor, UdpReceiver};
 use sd_outside::Opens;
 use sd_socket::{HandedOver, SharedAddress};

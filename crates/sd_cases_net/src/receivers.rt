@@ -1,12 +1,12 @@
 ghost use Rattle.std.specs.Prelude.{◌≡◌, ◌≤◌, length};
 ghost use Rattle.sd_outside.specs.Turns.{most_datagram};
 
-use crate::common::{
+use log::LevelFilter;
+use sd_case::Answer;
+use sd_case_net::{
     datagrams_at, datagrams_here, here, no_sockets, opening_text, room, socket_here, step,
     stop_name, stuck,
 };
-use log::LevelFilter;
-use sd_case::Answer;
 use sd_net::{RunLog, Stop, UdpReceiver};
 use sd_outside::{Address, Datagrams, Name, Next, Opens};
 use std::net::UdpSocket;

@@ -1,3 +1,2 @@
 mod PutLists
 mod ReportedLemmas
-pub mod Answered

@@ -1,4 +1,2 @@
 pub mod Puts
 pub mod Submitted
-pub mod Lookers
-pub mod Cell

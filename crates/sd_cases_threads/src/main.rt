@@ -1,19 +1,11 @@
-//! Cases of threads: of values behind a turn, of a pool, of a set of nodes that are up, and of an outlet. Each line of the input
-//! names one, and is printed with its answer, which is the same whatever the order of the threads. It reads `turn`, `seats`, `desk`,
-//! `facts`, `shared`, `held`, `cell`, `looks`, `relay` or `follow`, with arguments.
+//! Cases of threads over values behind a turn, a desk and a pool. Each line of the input names one, and is printed with its answer,
+//! which is the same whatever the order of the threads. It reads `turn`, `seats`, `desk`, `facts`, `shared` or `held`, with arguments.
 #![tactic(auto)]
 
-mod cell;
-mod count_gate;
 mod desk;
 mod held;
-mod looker;
-mod lookers;
-mod looks;
 mod puts;
 mod register;
-mod relay;
-mod relays;
 mod shared;
 
 use desk::{Counted, add_and_take, each_call};
@@ -197,14 +189,6 @@ where
         ["facts", lines, bad] => facts_case(rt, alloc, lines, bad, out),
         ["shared", line] => shared_case(rt, alloc, line, out),
         ["held", line] => held_case(rt, alloc, line, out),
-        ["cell", nodes, receivers, steps @ ..] => {
-            cell::steps_on_cell(rt, alloc, nodes, receivers, steps, out)
-        }
-        ["looks", sets, receivers, looks] => {
-            looks::looks_together(rt, alloc, sets, receivers, looks, out)
-        }
-        ["relay", n, count, fail] => relays::relay_case(rt, alloc, [n, count, fail], false, out),
-        ["follow", n, count, fail] => relays::relay_case(rt, alloc, [n, count, fail], true, out),
         _ => Err(Refusal::UnknownCall),
     }
 }

@@ -1,8 +1,0 @@
-use Rattle.std.proofs.Common.{◌≡◌, map}
-use Rattle.sd_cases_threads.specs.declared.looker.Looker.{Looker}
-use Rattle.sd_cases_threads.proofs.lookers.parted.Given as goal
-
-abbrev pub invariant-loop-looker : goal.invariant-loop-looker
-invariant-loop-looker l =
-    (l.passes.items ≡ map (λ (k : Looker). k.pass) l.yielded)
-    × (l.answers.items ≡ map (λ (k : Looker). k.answers) l.yielded)
