@@ -1,5 +1,5 @@
+pub mod DeliveryLemmas
 pub mod HomeLemmas
 pub mod OfferLemmas
 pub mod RoundLemmas
-pub mod RoundOutLemmas
 pub mod SwapLemmas

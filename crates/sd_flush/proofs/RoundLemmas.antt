@@ -1,27 +1,25 @@
 -- Rounds, one after another.
-use Rattle.std.proofs.Common.{◌≡◌, ℕ, ◌+◌, ◌<◌, ◌^◌, Bool, List, [], ◌∷◌, ◌++◌, length, map, flat_map, Option, refl, sym, ap, subst, ◌∙◌, arith, append_assoc, append-nil}
+use Rattle.std.proofs.Common.{◌≡◌, ℕ, ◌+◌, ◌<◌, ◌^◌, List, [], ◌∷◌, ◌++◌, length, map, flat_map, Option, refl, sym, ap, subst, ◌∙◌, arith, append_assoc, append-nil}
 use Rattle.std.specs.Prelude.{Some, None}
 use Rattle.std.proofs.lemmas.List.{map-append, length_push}
 use Rattle.std.proofs.lemmas.Grind.{flat_map-append}
 use Rattle.std.proofs.lemmas.List.Sums.{sum_by-append, sum_by-cons}
 use Rattle.sd_model_outside.specs.Outside.{Object, Content, Ticks}
 use Rattle.sd_outside.specs.Turns.{raised, GivesTick, turned}
-use Rattle.sd_model_outside.specs.Uses.{with_ticks, Delivery, AfterDeliveries}
-use Rattle.sd_model_outside.proofs.DeliveryLemmas.{AfterDeliveries-push}
+use Rattle.sd_model_outside.specs.Uses.{with_ticks}
 use Rattle.sd_model_outside.proofs.TurnLemmas.{with_ticks-append}
 use Rattle.sd_model_shard.specs.History.{History}
 use Rattle.sd_model_record.specs.Desk.{Marks, counted}
 use Rattle.sd_shared_desk.specs.Counts.{Part, HasCounted, nothing, plus, share}
 use Rattle.sd_model_record.specs.DeskHistory.{DeskCall}
-use Rattle.sd_model_record.specs.Backends.{Backend, Graphite, Console, mark_of}
+use Rattle.sd_model_record.specs.Backends.{Backend, Graphite, Console}
 use Rattle.sd_shared_desk.proofs.CountLemmas.{counted_none, counted_next}
 use Rattle.sd_pool.specs.Adding.{Adds}
-use Rattle.sd_model_serve.specs.Rounds.{Round, RecordForm, MarksFit, last_second, round_calls, round_deliveries, round_text, swaps_at}
-use Rattle.sd_flush.specs.Made.{MakesRound, MakesRounds, of_round, of_rounds}
+use Rattle.sd_model_serve.specs.Rounds.{Round, RecordForm, last_second, round_calls, swaps_at}
+use Rattle.sd_flush.specs.Made.{GivesRound, GivesRounds, MakesRound, MakesRounds, of_round, of_rounds}
 use Rattle.sd_pool.proofs.ActsLemmas.{Adds-none, Adds-next}
 use Rattle.sd_rows.specs.declared.row.Row.{Row}
-use Rattle.sd_pool.proofs.AlongLemmas.{AllByRecursion-append}
-use Rattle.sd_flush.specs.Flushing.{MakesRoundAt, uses_by}
+use Rattle.sd_flush.specs.Flushing.{MakesRoundAt}
 use Rattle.sd_model_serve.proofs.Short.{swap_of}
 use Rattle.sd_desk.specs.Sums.{Count, Amounts}
 
@@ -38,27 +36,10 @@ counted_as a b old new same h = record {
   adds = λ c. h.adds c ∙ ap (counted (share old c)) (same c);
 }
 
--- the same round, by other words for the two flags
-pub round_by : (form : RecordForm) (graphite console graphite_is console_is : Bool) (ts : ℕ) (marks : Marks) (own own_now : ℕ → History) (part part_now : Part) (back back_now : Backend → Object) (waiting : List (List (Option Row)))
-    → graphite ≡ graphite_is → console ≡ console_is → MakesRoundAt form (uses_by graphite console) ts marks own own_now part part_now back back_now waiting
-    → MakesRoundAt form (uses_by graphite_is console_is) ts marks own own_now part part_now back back_now waiting
-round_by form graphite console graphite_is console_is ts marks own own_now part part_now back back_now waiting g c h =
-    subst (λ (x : Bool). MakesRoundAt form (uses_by x console_is) ts marks own own_now part part_now back back_now waiting) g
-    (subst (λ (x : Bool). MakesRoundAt form (uses_by graphite x) ts marks own own_now part part_now back back_now waiting) c h)
-
 -- no ticks before those that are left
 pub ticks_none : (content : Content) → content ≡ with_ticks [] content
 ticks_none (Ticks left) = refl
 ticks_none content = refl
-
--- Rounds were made at the ticks that were read, as many, the last of them at this second.
-pub record SoFar (form : RecordForm) (used : Backend → Bool) (own own_now : ℕ → History) (part part_now : Part) (back back_now : Backend → Object) (beat beat_now : Object) (made : ℕ) (last : Option ℕ) : Type 0 where
-  pub rounds : List Round
-  pub are_made : MakesRounds form used rounds own own_now part part_now back back_now
-  pub count : length rounds ≡ made
-  pub given : beat.content ≡ with_ticks (map (λ r. r.ts) rounds) beat_now.content
-  pub same : beat_now ≡ record beat { content = beat_now.content; turns = beat.turns + made }
-  pub last_is : last ≡ last_second rounds
 
 -- the second of a round behind rounds
 pub last_of : (rounds : List Round) (r : Round) → last_second (rounds ++ r ∷ []) ≡ Some r.ts
@@ -124,37 +105,47 @@ read_next beat beat_mid beat_now made ts few first tick =
       once : raised (beat.turns + made) ≡ beat.turns + (made + 1)
       once = omega (arith, few)
 
-module _ (form : RecordForm) (used : Backend → Bool) where
-  pub no_rounds : (own : ℕ → History) (part : Part) (back : Backend → Object) (beat : Object) → SoFar form used own own part part back back beat beat 0 None
-  no_rounds own part back beat = record {
+module _ {D : Type 0} (form : RecordForm) (gives : (Backend → List ℕ) → Marks → D → D → Type 0) where
+  -- Rounds were made at the ticks that were read, as many, the last of them at this second.
+  pub record SoFar (own own_now : ℕ → History) (part part_now : Part) (old now : D) (beat beat_now : Object) (made : ℕ) (last : Option ℕ) : Type 0 where
+    pub rounds : List Round
+    pub are_made : MakesRounds form gives rounds own own_now part part_now old now
+    pub count : length rounds ≡ made
+    pub given : beat.content ≡ with_ticks (map (λ r. r.ts) rounds) beat_now.content
+    pub same : beat_now ≡ record beat { content = beat_now.content; turns = beat.turns + made }
+    pub last_is : last ≡ last_second rounds
+
+  -- the record of a round behind those of rounds
+  given_behind : (rounds : List Round) (r : Round) (old mid new : D) → GivesRounds form gives rounds old mid → GivesRound form gives r mid new → GivesRounds form gives (rounds ++ r ∷ []) old new
+  given_behind [] r old mid new first second = (new, subst (λ (d : D). GivesRound form gives r d new) first second, refl)
+  given_behind (q ∷ rounds) r old mid new first second = (first.0, first.1, given_behind rounds r first.0 mid new first.2 second)
+
+  pub no_rounds : (own : ℕ → History) (part : Part) (delivery : D) (beat : Object) → SoFar own own part part delivery delivery beat beat 0 None
+  no_rounds own part delivery beat = record {
     rounds = [];
-    are_made = record { swapped = Adds-none form.shards own; used = tt; delivered = λ b. refl; counted = none_counted part; called = sym (append-nil part.own) };
+    are_made = record { swapped = Adds-none form.shards own; given = refl; counted = none_counted part; called = sym (append-nil part.own) };
     count = refl;
     given = ticks_none beat.content;
     same = none_read beat;
     last_is = refl;
   }
 
-  module _ (own mid own_now : ℕ → History) (part part_mid part_now : Part) (back back_mid back_now : Backend → Object) where
+  module _ (own mid own_now : ℕ → History) (part part_mid part_now : Part) (old was new : D) where
     -- a round behind rounds
-    pub rounds_next : (rounds : List Round) (r : Round) → MakesRounds form used rounds own mid part part_mid back back_mid → MakesRound form used r mid own_now part_mid part_now back_mid back_now
-        → MakesRounds form used (rounds ++ r ∷ []) own own_now part part_now back back_now
+    rounds_next : (rounds : List Round) (r : Round) → MakesRounds form gives rounds own mid part part_mid old was → MakesRound form gives r mid own_now part_mid part_now was new
+        → MakesRounds form gives (rounds ++ r ∷ []) own own_now part part_now old new
     rounds_next rounds r first second = record {
       swapped = swapped_next form.shards own mid own_now rounds r first.swapped second.swapped;
-      used = AllByRecursion-append (MarksFit used) rounds (r ∷ []) first.used (second.used, tt);
-      delivered = λ b.
-          let delivery : Round → Delivery = λ q. record { text = round_text form b q; mark = mark_of b q.marks } in
-          subst (λ (ds : List Delivery). AfterDeliveries ds (back b) (back_now b)) (sym (map-append delivery rounds (r ∷ [])))
-          (AfterDeliveries-push (round_deliveries form b rounds) (delivery r) (back b) (back_mid b) (back_now b) (first.delivered b) (second.delivered b));
+      given = given_behind rounds r old was new first.given second.given;
       counted = round_counted part part_mid part_now rounds r first.counted second.counted;
       called = round_called part part_mid part_now rounds r first.called second.called;
     }
 
     -- a tick, and its round
     pub SoFar-next : (beat beat_mid beat_now : Object) (made ts : ℕ) (before : Option ℕ) (marks : Marks) (waiting : List (List (Option Row))) → beat.turns + made < 2 ^ 63
-        → SoFar form used own mid part part_mid back back_mid beat beat_mid made before → GivesTick ts beat_mid beat_now
-        → MakesRoundAt form used ts marks mid own_now part_mid part_now back_mid back_now waiting
-        → SoFar form used own own_now part part_now back back_now beat beat_now (made + 1) (Some ts)
+        → SoFar own mid part part_mid old was beat beat_mid made before → GivesTick ts beat_mid beat_now
+        → MakesRoundAt form gives ts marks mid own_now part_mid part_now was new waiting
+        → SoFar own own_now part part_now old new beat beat_now (made + 1) (Some ts)
     SoFar-next beat beat_mid beat_now made ts before marks waiting few first tick second = record {
       rounds = first.rounds ++ second.round ∷ [];
       are_made = rounds_next first.rounds second.round first.are_made second.made;

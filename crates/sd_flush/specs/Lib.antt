@@ -1,7 +1,8 @@
+pub mod Delivery
 pub mod Flushing
-pub mod FlushingOut
+pub mod Leads
+pub mod Made
 pub mod Offers
-pub mod Outs
+pub mod PerBackend
 pub mod Swapping
 pub mod Tables
-pub mod Made

@@ -1,13 +1,12 @@
 -- Texts that are offered to an outlet, and what becomes of each.
-use Rattle.std.specs.Prelude.{◌≡◌, ℕ, ◌+◌, ◌<◌, ◌≤◌, ◌^◌, List, [], ◌∷◌, ◌++◌, length, map, flat_map, sum_by, min, None, Some, IsSome}
+use Rattle.std.specs.Prelude.{◌≡◌, ℕ, ◌<◌, ◌≤◌, ◌^◌, List, [], ◌∷◌, ◌++◌, length, map, flat_map, min, None, Some, IsSome, Result, Ok, Err, ⊤}
 use Rattle.sd_model_outside.specs.Outside.{last_count}
 use Rattle.sd_outside.specs.Turns.{raised}
 use Rattle.sd_outlet.specs.declared.feed.Feed.{Feed}
 use Rattle.sd_outlet.specs.declared.outlet.Outlet.{Outlet}
 use Rattle.sd_outlet.specs.Feed.{buffers, bytes_of, refusals_of, sends_of, sent, stopped_at}
-use Rattle.sd_flush.specs.declared.outs.OutMark.{OutMark}
-use Rattle.sd_flush.specs.declared.outs.OutMark.TheVariants.{NotUsed, Queued, Skipped}
-use Rattle.sd_flush.specs.declared.outs.Skip.TheVariants.{Long, Full, Spent}
+use Rattle.sd_flush.specs.declared.outlets.Skip.{Skip}
+use Rattle.sd_flush.specs.declared.outlets.Skip.TheVariants.{Long, Full, Spent}
 
 -- how many sends a feed may make
 abbrev pub most_sends : ℕ
@@ -43,54 +42,37 @@ pub record WasSpent (sends : ℕ) (text : List ℕ) (o : Outlet) (old new : Feed
   pub sends_are : sends ≡ sends_of old
   pub same : new ≡ old
 
--- what becomes of a text at the outlet of a backend that is used, by its mark
-abbrev pub AfterOut : OutMark → List ℕ → Outlet → Feed → Feed → Type 0
-AfterOut NotUsed text o old new = ⊥
-AfterOut Queued text o old new = WasQueued text o old new
-AfterOut (Skipped (Long len)) text o old new = WasLong len text o old new
-AfterOut (Skipped Full) text o old new = WasRefused text o old new
-AfterOut (Skipped (Spent sends)) text o old new = WasSpent sends text o old new
+-- what became of a text that was offered to an outlet
+abbrev pub AfterOffer : Result ⊤ Skip → List ℕ → Outlet → Feed → Feed → Type 0
+AfterOffer (Ok done) text o old new = WasQueued text o old new
+AfterOffer (Err (Long len)) text o old new = WasLong len text o old new
+AfterOffer (Err Full) text o old new = WasRefused text o old new
+AfterOffer (Err (Spent sends)) text o old new = WasSpent sends text o old new
 
--- a text that was offered, and its mark
+-- a text that was offered, and whether it was sent
 pub record Offer : Type 0 where
   pub text : List ℕ
-  pub mark : OutMark
+  pub offered : Result ⊤ Skip
 
--- what becomes of texts, one after another
+-- what became of texts, one after another
 abbrev pub AfterOffers : Outlet → List Offer → Feed → Feed → Type 0
 AfterOffers o [] old new = new ≡ old
-AfterOffers o (f ∷ offers) old new = (mid : Feed) × AfterOut f.mark f.text o old mid × AfterOffers o offers mid new
+AfterOffers o (f ∷ offers) old new = (mid : Feed) × AfterOffer f.offered f.text o old mid × AfterOffers o offers mid new
 
--- the text, where its mark says that it was sent
-abbrev pub queued_by : OutMark → List ℕ → List (List ℕ)
-queued_by NotUsed text = []
-queued_by Queued text = text ∷ []
-queued_by (Skipped skip) text = []
+-- the text, where it was sent
+abbrev pub queued_by : Result ⊤ Skip → List ℕ → List (List ℕ)
+queued_by (Ok done) text = text ∷ []
+queued_by (Err skip) text = []
 
 -- the texts that were sent, in order
 abbrev pub texts_queued : List Offer → List (List ℕ)
-texts_queued offers = flat_map (λ f. queued_by f.mark f.text) offers
+texts_queued offers = flat_map (λ f. queued_by f.offered f.text) offers
 
--- what a mark counts as a skip
-abbrev pub skip_of : OutMark → ℕ
-skip_of NotUsed = 0
-skip_of Queued = 0
-skip_of (Skipped skip) = 1
-
--- how many texts were skipped
-abbrev pub skips_in : List Offer → ℕ
-skips_in offers = sum_by (λ f. skip_of f.mark) offers
-
--- Each of these texts was offered to the outlet, in order. Those that were queued are what was sent since; so many were
--- skipped, which are the others.
-pub record HasOffered (texts : List (List ℕ)) (skipped : ℕ) (o : Outlet) (old new : Feed) : Type 0 where
+-- Each of these texts was offered to the outlet, in order.
+pub record HasOffered (texts : List (List ℕ)) (o : Outlet) (old new : Feed) : Type 0 where
   pub offers : List Offer
   pub of_texts : map (λ f. f.text) offers ≡ texts
   pub after : AfterOffers o offers old new
-  pub queued : sent new ≡ sent old ++ texts_queued offers
-  pub skips : skipped ≡ skips_in offers
-  pub others : length texts ≡ length (texts_queued offers) + skipped
-  pub stopped : stopped_at new ≡ stopped_at old
 
 -- A feed was stopped, behind what it had sent; its outlet was told of the first stop alone.
 pub record WasStopped (old new : Feed) : Type 0 where

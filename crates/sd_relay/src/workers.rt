@@ -17,7 +17,7 @@ use crate::postings::Posts;
 use log::Log;
 use sd_outside::{Beat, Datagrams, Door, Gate, Probe, Wire};
 use sd_proxy::{Checked, ProxyPass};
-use sd_workers::run_with_third;
+use sd_workers::run_workers;
 use std::sync::Wait;
 use std::thread::Threads;
 
@@ -68,7 +68,7 @@ pub(crate) fn run_relays<
         door: &mut *parts.lines,
     };
     let receivers = posts.receivers.as_mut_slice();
-    run_with_third(
+    run_workers(
         rt,
         live,
         &mut checking,

@@ -8,10 +8,11 @@ use Rattle.sd_shared.specs.declared.shared.Shared.{Shared}
 use Rattle.sd_shared_desk.specs.Shared.{IsSeatOf as IsDeskSeatOf, OwnSeat as DeskSeat, number_of_seat}
 use Rattle.sd_serve.specs.LinePost.{line_owns, line_seats}
 use Rattle.sd_serve.specs.PostRooms.{own_in, seat_in}
-use Rattle.sd_serve.specs.Services.{IsCrew, IsFlusherPost}
+use Rattle.sd_flush.specs.Tables.{IsFlusherPost}
+use Rattle.sd_serve.specs.Services.{IsCrew}
 use Rattle.sd_serve.specs.Workers.{HaveRun, Held, Sights}
 use Rattle.sd_serve.specs.declared.crew.SeatLists.{SeatLists}
-use Rattle.sd_serve.specs.declared.services.FlusherPost.{FlusherPost}
+use Rattle.sd_flush.specs.declared.post.FlusherPost.{FlusherPost}
 use Rattle.sd_serve.specs.declared.services.ServicePosts.{ServicePosts}
 use Rattle.sd_serve.specs.declared.workers.Ends.{Ends}
 use Rattle.sd_serve.proofs.LineLemmas.{IsLineKept, line_kept}

@@ -5,7 +5,6 @@ mod RoomLemmas
 mod DeskLemmas
 mod ServeLemmas
 mod ThroughLemmas
-mod WrittenLemmas
 pub mod CallerLemmas
 pub mod CountedLemmas
 pub mod RunLemmas

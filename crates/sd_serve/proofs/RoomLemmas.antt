@@ -19,8 +19,8 @@ use Rattle.sd_serve.specs.PostRooms.{IsBatched, IsFitted, own_in, seat_in}
 use Rattle.sd_serve.specs.Services.{AreNew, IsNewLine}
 use Rattle.sd_serve.specs.declared.line_post.LinePost.{LinePost}
 use Rattle.sd_serve.specs.declared.line_post.LineRoom.{LineRoom}
-use Rattle.sd_serve.specs.declared.out_room.OutRooms.{OutRooms}
-use Rattle.sd_serve.proofs.WrittenLemmas.{each_room}
+use Rattle.sd_flush.specs.declared.per_backend.PerBackend.{PerBackend}
+use Rattle.sd_serve.specs.declared.out_room.OutRoom.{OutRoom}
 
 -- as many as have numbers
 pub counted_by : {X : Type 0} (f : X → ℕ) (xs : List X) (n : ℕ) → map f xs ≡ span 0 n → length xs ≡ n
@@ -96,7 +96,7 @@ line_new pool desk None seats owns = tt
 line_new pool desk (Some p) seats owns = (seats.0.own, owns.0.own)
 
 -- nothing was sent at outlets, where there are any
-pub rooms_ready : (outlets : Bool) (n bytes : ℕ) (rooms : Option OutRooms) → HasOutRooms outlets n bytes rooms → IfSome rooms AreOutRooms
+pub rooms_ready : (outlets : Bool) (n bytes : ℕ) (rooms : Option (PerBackend OutRoom)) → HasOutRooms outlets n bytes rooms → IfSome rooms AreOutRooms
 rooms_ready false n bytes None h = tt
-rooms_ready true n bytes (Some rooms) h = λ b. (each_room n bytes rooms h b).is_new
+rooms_ready true n bytes (Some rooms) h = λ b. (h b).is_new
 rooms_ready outlets n bytes rooms h = absurd h

@@ -1,5 +1,5 @@
 -- A run of the server, put together from what its workers tell, and the closing of its pool and its desk.
-use Rattle.std.proofs.Common.{◌≡◌, ◌⊎◌, ℕ, ◌+◌, ◌<◌, ◌≤◌, Option, List, [], ◌∷◌, ◌++◌, length, map, flat_map, get_or, inl, inr, refl, sym, ap, subst, ◌∙◌, arith, length-append, append_assoc}
+use Rattle.std.proofs.Common.{◌≡◌, ◌⊎◌, ℕ, Bool, ◌+◌, ◌<◌, ◌≤◌, Option, List, [], ◌∷◌, ◌++◌, length, map, flat_map, get_or, inl, inr, refl, sym, ap, subst, ◌∙◌, arith, length-append, append_assoc}
 use Rattle.std.specs.Prelude.{Some, max, min, option_to_list, slice_get, sum_by}
 use Rattle.std.specs.List.{AllByRecursion, range_with_len}
 use Rattle.std.specs.Option.{option_map_or}
@@ -8,7 +8,7 @@ use Rattle.std.proofs.lemmas.List.{length-map, map-append}
 use Rattle.std.proofs.lemmas.List.Elements.{recursion_from_All}
 use Rattle.std.proofs.lemmas.List.Sums.{sum_by-append, sum_by-cons}
 use Rattle.sd_turn.specs.Lists.{span}
-use Rattle.sd_model_outside.specs.Uses.{Delivery, AfterDeliveries}
+use Rattle.sd_model_outside.specs.Uses.{Delivery, AfterDeliveries, FitsUse}
 use Rattle.sd_model_outside.specs.Outside.{Object}
 use Rattle.sd_model_outside.proofs.DeliveryLemmas.{AfterDeliveries-push}
 use Rattle.sd_model_settings.specs.Settings.{Names}
@@ -49,7 +49,8 @@ use Rattle.sd_rows.specs.declared.row.Row.{Row}
 use Rattle.sd_shared.specs.declared.shared.Shared.{Shared}
 use Rattle.sd_shared_desk.specs.Shared.{OwnSeat as DeskSeat, number_of_seat, part_of, seats_of, start_of}
 use Rattle.sd_shared_desk.specs.declared.shared_desk.SharedDesk.{SharedDesk}
-use Rattle.sd_flush.specs.Flushing.{EndsSo, MakesRoundAt, back_of, form_of, uses}
+use Rattle.sd_flush.specs.Delivery.{GivesBackends, back_of, uses}
+use Rattle.sd_flush.specs.Flushing.{EndsSo, MakesRoundAt, form_of}
 use Rattle.sd_flush.proofs.RoundLemmas.{round_called, round_counted, swapped_next}
 use Rattle.sd_receive.specs.Posts.{ended_in}
 use Rattle.sd_receive.specs.declared.post.Post.{Post}
@@ -63,7 +64,7 @@ use Rattle.sd_serve.specs.Through.{FlushesThrough}
 use Rattle.sd_serve.specs.declared.line_post.LinePost.{LinePost}
 use Rattle.sd_serve.specs.Workers.{HaveRun, Held, Sights}
 use Rattle.sd_serve.specs.declared.crew.SeatLists.{SeatLists}
-use Rattle.sd_serve.specs.declared.services.FlusherPost.{FlusherPost}
+use Rattle.sd_flush.specs.declared.post.FlusherPost.{FlusherPost}
 use Rattle.sd_serve.specs.declared.serving.Served.{Served}
 use Rattle.sd_serve.proofs.CrewLemmas.{with_flusher}
 use Rattle.sd_serve.proofs.LineLemmas.{is_line_trace, keeper_as, line_asked, line_drops, line_shares, line_traces_count, line_traces_ended, line_traces_of}
@@ -128,7 +129,7 @@ module _ {D L P B E S G C : Type 0} (see : Sights D L P B E S) (shared : Shared 
     pub ts : ℕ
     pub marks : Marks
     pub waiting : List (List (Option Row))
-    pub last : MakesRoundAt form (uses old.objects.backs.now) ts marks (own_at new.services.flusher.seat) (own_at post.seat) (part_of new.services.flusher.own) (part_of post.own) (back_of see.back new.objects.backs.now) (back_of see.back backs) waiting
+    pub last : MakesRoundAt form (GivesBackends see.back) ts marks (own_at new.services.flusher.seat) (own_at post.seat) (part_of new.services.flusher.own) (part_of post.own) new.objects.backs.now backs waiting
     pub reported_so : (now : ℕ) × says now × (ts ≡ option_map_or (λ second. max second now) result.ends.flusher.last now)
     pub lists : SeatLists
     pub crew : IsCrew pool desk lists (with_flusher post new.services) new.posts
@@ -222,7 +223,7 @@ module _ {D L P B E S G C : Type 0} (see : Sights D L P B E S) (shared : Shared 
         let order : (queued ++ ticked) ++ delivery t.last.round ∷ [] ≡ queued ++ round_deliveries form b rounds =
         append_assoc queued ticked (delivery t.last.round ∷ []) ∙ ap (λ (ds : List Delivery). queued ++ ds) (sym (map-append delivery t.flushes.rounds (t.last.round ∷ []))) in
         subst (λ ds. AfterDeliveries ds (back_of see.back t.old.objects.backs.now b) (back_of see.back t.backs b)) order
-        (AfterDeliveries-push (queued ++ ticked) (delivery t.last.round) (back_of see.back t.old.objects.backs.now b) (back_of see.back t.new.objects.backs.now b) (back_of see.back t.backs b) (t.flushes.delivered b) (t.last.made.delivered b))
+        (AfterDeliveries-push (queued ++ ticked) (delivery t.last.round) (back_of see.back t.old.objects.backs.now b) (back_of see.back t.new.objects.backs.now b) (back_of see.back t.backs b) (t.flushes.delivered b) (t.last.made.given.delivered b))
 
     swaps : (i : ℕ) → i < shards_of pool → own_at t.post.seat i ≡ swaps_at rounds i
     swaps i below = made_new (shards_of pool) (swaps_at rounds) (own_at t.old.services.flusher.seat) (own_at t.post.seat) swapped t.is_new.flusher_is.0 i below
@@ -424,7 +425,7 @@ module _ {D L P B E S G C : Type 0} (see : Sights D L P B E S) (shared : Shared 
       };
       last = (t.reported_so.0, t.reported_so.1, t.last.second ∙ t.reported_so.2 ∙ ap (λ (o : Option ℕ). option_map_or (λ second. max second t.reported_so.0) o t.reported_so.0) t.flushes.last);
       used = t.flushes.fits;
-      used_last = t.last.made.used;
+      used_last = λ b. subst (λ (u : Bool). FitsUse u (mark_of b t.last.round.marks)) (t.did.same_use b) (t.last.made.given.used b);
       through_outlets = t.flushes.through_outlets;
       delivered = delivered;
       visited = t.did.serves.keeps.served;

@@ -2,7 +2,7 @@
 use Rattle.std.specs.Prelude.{◌≡◌, ℕ, ◌+◌, ◌<◌, ◌≤◌, ◌^◌, false, List, [], ◌∷◌, ◌++◌, All, Option, IfSome, length, map, option_to_list, vec_capacity}
 use Rattle.std.specs.List.{AllByRecursion}
 use Rattle.sd_model_outside.specs.Outside.{Object}
-use Rattle.sd_model_serve.specs.Receiving.{administrator, flusher}
+use Rattle.sd_model_serve.specs.Receiving.{administrator}
 use Rattle.sd_turn.specs.Lists.{span}
 use Rattle.sd_pool.specs.declared.pool.Pool.{Pool}
 use Rattle.sd_pool.specs.declared.seat.Seat.{Seat}
@@ -11,7 +11,7 @@ use Rattle.sd_shared_desk.specs.declared.shared_desk.SharedDesk.{SharedDesk}
 use Rattle.sd_shared_desk.specs.Shared.{IsSeatOf as IsDeskSeatOf, OwnSeat as DeskSeat, number_of_seat, part_of, seats_of, start_of}
 use Rattle.sd_receive.specs.declared.post.Post.{Post}
 use Rattle.sd_receive.specs.Posts.{IsReady}
-use Rattle.sd_flush.specs.Tables.{AreTablesFor}
+use Rattle.sd_flush.specs.Tables.{IsFlusherPost}
 use Rattle.sd_session.specs.Space.{IsSpaceFor}
 use Rattle.sd_serve.specs.LinePost.{IsLineReady, line_keepers, line_owns, line_seats}
 use Rattle.sd_serve.specs.OutRoom.{HasOutRooms}
@@ -22,20 +22,12 @@ use Rattle.sd_serve.specs.declared.crew.SeatLists.{SeatLists}
 use Rattle.sd_serve.specs.declared.line_post.LinePost.{LinePost}
 use Rattle.sd_serve.specs.declared.room.ServerRoom.{ServerRoom}
 use Rattle.sd_serve.specs.declared.services.AdminPost.{AdminPost}
-use Rattle.sd_serve.specs.declared.services.FlusherPost.{FlusherPost}
 use Rattle.sd_serve.specs.declared.services.ServicePosts.{ServicePosts}
 
 -- of a door no session is out, and it has turns left
 pub record IsIdleDoor (door : Object) : Type 0 where
   pub none_out : door.is_out ≡ false
   pub turns : door.turns < 2 ^ 62
-
--- the flusher has its seat of the pool, one of the desk, and tables for the shards
-pub record IsFlusherPost (pool : Pool) (desk : SharedDesk) (f : FlusherPost) : Type 0 where
-  pub seat_is : IsSeatOf pool f.seat
-  pub who : who_is f.seat ≡ flusher
-  pub own_is : IsDeskSeatOf desk f.own
-  pub tables_are : AreTablesFor (limits_of pool) (shards_of pool) f.tables
 
 -- the keeper of the admin door has the administrator's seat of the pool, one of the desk, and room for replies
 pub record IsAdminPost (pool : Pool) (desk : SharedDesk) (a : AdminPost) : Type 0 where

@@ -15,7 +15,7 @@ use Rattle.sd_outside.specs.declared.door.DoorEnd.TheVariants as closed
 use Rattle.sd_plan.specs.Plan.{plan_view}
 use Rattle.sd_plan.specs.declared.reckoning.Reckoning.{Reckoning}
 use Rattle.sd_pool.specs.Books.{IsBookOf, no_book}
-use Rattle.sd_flush.specs.Flushing.{back_of, uses}
+use Rattle.sd_flush.specs.Delivery.{back_of, uses}
 use Rattle.sd_serve.specs.Room.{Sizing, outlets_of}
 use Rattle.sd_serve.specs.Through.{AreCounted, has_counts}
 use Rattle.sd_serve.specs.declared.serving.Served.{Served}

@@ -2,6 +2,7 @@
 use Rattle.std.specs.Prelude.{◌≡◌, ℕ, ◌<◌, ◌^◌, List, All, IfSome, length, slice_index_or}
 use Rattle.sd_model_outside.specs.Outside.{Object}
 use Rattle.sd_model_settings.specs.Settings.{Settings}
+use Rattle.sd_model_record.specs.Backends.{Backend}
 use Rattle.sd_pool.specs.Pool.{own_at, shards_of}
 use Rattle.sd_shared.specs.declared.shared.Shared.{Shared}
 use Rattle.sd_shared_desk.specs.Shared.{number_of_seat, part_of}
@@ -10,7 +11,9 @@ use Rattle.sd_receive.specs.declared.post.Post.{Post}
 use Rattle.sd_door.specs.DoorKeeper.{EndsDoorKeeper}
 use Rattle.sd_session.specs.Doors.{ServesSessions}
 use Rattle.sd_serve.specs.LinePost.{AreLinesReadBy, IsLineReady}
-use Rattle.sd_serve.specs.Services.{IsAdminPost, IsFlusherPost, IsIdleDoor}
+use Rattle.sd_flush.specs.Delivery.{uses}
+use Rattle.sd_flush.specs.Tables.{IsFlusherPost}
+use Rattle.sd_serve.specs.Services.{IsAdminPost, IsIdleDoor}
 use Rattle.sd_serve.specs.declared.objects.ServerObjects.{ServerObjects}
 use Rattle.sd_serve.specs.declared.services.ServicePosts.{ServicePosts}
 use Rattle.sd_serve.specs.declared.workers.Ends.{Ends}
@@ -66,7 +69,6 @@ module _ {D L P B E S : Type 0} where
       pub keeper : EndsDoorKeeper shared.run_flushes ends.keeper (see.door old.objects.door.now) (see.door new.objects.door.now) (part_of new.services.admin.own)
       pub lines : AreLinesReadBy says shared.pool.now shared.desk.now shared.run_flushes old.services.lines new.services.lines ends.line_reader (see.streams old.objects.streams.now) (see.streams new.objects.streams.now)
       pub objects : StayObjects old.objects new.objects
-      pub graphite_flag : new.objects.backs.now.graphite_used ≡ old.objects.backs.now.graphite_used
-      pub console_flag : new.objects.backs.now.console_used ≡ old.objects.backs.now.console_used
+      pub same_use : (b : Backend) → uses new.objects.backs.now b ≡ uses old.objects.backs.now b
       pub len : length new.posts ≡ length old.posts
       pub each : (i : ℕ) (d : Post D L) → i < length old.posts → HasRun see.source see.wire says shared.pool.now shared.desk.now shared.run_flushes (slice_index_or old.posts i d) (slice_index_or new.posts i d)

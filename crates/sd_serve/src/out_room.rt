@@ -1,6 +1,7 @@
 ghost use Rattle.std.specs.Prelude.{◌<◌, IfOk, nat_lt};
 ghost use Rattle.sd_serve.specs.OutRoom.{HasOutRooms};
 
+use sd_flush::PerBackend;
 use sd_outlet::{Drain, Feed, Outlet};
 use std::alloc::{AllocError, Global};
 
@@ -35,11 +36,7 @@ impl OutRoom {
 }
 
 /// The outlets of both backends. That of a backend that isn't used is there too, and nothing goes through it.
-#[derive(Drop)]
-pub struct OutRooms {
-    pub graphite: OutRoom,
-    pub console: OutRoom,
-}
+pub type OutRooms = PerBackend<OutRoom>;
 
 /// Takes the room of outlets of so many buffers each, where that isn't 0, each buffer of so many bytes.
 ///
@@ -57,7 +54,7 @@ pub(crate) fn open_outlets(
     if n == 0 {
         return Ok(None);
     }
-    Ok(Some(OutRooms {
+    Ok(Some(PerBackend {
         graphite: OutRoom::open(alloc, n, bytes)?,
         console: OutRoom::open(alloc, n, bytes)?,
     }))

@@ -1,18 +1,10 @@
 //! What the workers beside the receivers hold while they run.
 
 use crate::line_post::LinePost;
-use sd_flush::Tables;
+use sd_flush::FlusherPost;
 use sd_pool::Seat;
 use sd_session::AdminSpace;
 use sd_shared_desk::DeskSeat;
-
-/// The flusher's seats at the shards and at the desk, and its tables.
-#[derive(Drop)]
-pub(crate) struct FlusherPost {
-    pub seat: Seat,
-    pub own: DeskSeat,
-    pub tables: Tables,
-}
 
 /// The seats of the keeper of the admin door at the shards and at the desk, and its room for replies.
 #[derive(Drop)]

@@ -7,10 +7,10 @@ ghost use Rattle.sd_serve.specs.Workers.{StayObjects};
 
 use crate::crew::{Manned, close, man};
 use crate::objects::ObjectsOf;
+use crate::outlets::OutCounts;
 use crate::room::ServerRoom;
 use crate::run_settings::RunSettings;
 use crate::workers::{Ends, run_all};
-use crate::workers_out::OutCounts;
 use log::Log;
 use sd_desk::Desk;
 use sd_flush::round;
@@ -97,9 +97,7 @@ pub fn serve<K: ObjectTypes, R: Threads + Wait + Log + Sync>(
     round(
         rt,
         &shared,
-        &mut services.flusher.own,
-        &mut services.flusher.seat,
-        &mut services.flusher.tables,
+        &mut services.flusher,
         &run_settings.form,
         last_round_at(run_settings.clock.last(), ran.flusher.last),
         objects.backs,

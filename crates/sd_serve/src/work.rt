@@ -1,10 +1,10 @@
 //! The work of each worker over what is lent to it, and how it ended, once it was run.
 
 use crate::line_post::LinePost;
-use crate::services::{AdminPost, FlusherPost};
+use crate::services::AdminPost;
 use log::Log;
 use sd_config::Settings;
-use sd_flush::{Flushed, FlushedOut, Outs, RecordForm, flush_all, flush_all_out};
+use sd_flush::{Flushed, FlusherPost, Leads, RecordForm, flush_all};
 use sd_outlet::{Drain, Outlet, Worked};
 use sd_outside::{Backend, Backs, Beat, Clock, Door, DoorEnd, Gate};
 use sd_session::doorkeep;
@@ -31,17 +31,7 @@ impl<'a, B: Backend, E: Beat, G: Gate, C: Clock> Worker<Shared<'a, G, C>>
     ghost has_run = { λ shared old new. HasFlushed B.seen E.seen shared.pool.now shared.desk.now shared.run_flushes old new };
 
     fn run<R: Wait + Log>(&mut self, rt: &R, shared: &Shared<'a, G, C>) {
-        let post = &mut *self.post;
-        self.flushed = flush_all(
-            rt,
-            shared,
-            &mut post.own,
-            &mut post.seat,
-            &mut post.tables,
-            self.form,
-            self.beat,
-            self.backs,
-        );
+        self.flushed = flush_all(rt, shared, self.post, self.form, self.beat, self.backs);
     }
 }
 
@@ -50,9 +40,9 @@ impl<'a, B: Backend, E: Beat, G: Gate, C: Clock> Worker<Shared<'a, G, C>>
 pub(crate) struct Feeding<'s, 'p, 'f, 'u, 'l, 'e, E> {
     pub post: &'s mut FlusherPost,
     pub form: &'f RecordForm<'p>,
-    pub outs: &'u mut Outs<'l>,
+    pub leads: &'u mut Leads<'l>,
     pub beat: &'e mut E,
-    pub fed: FlushedOut,
+    pub flushed: Flushed,
 }
 
 impl<'a, E: Beat, G: Gate, C: Clock> Worker<Shared<'a, G, C>>
@@ -64,17 +54,7 @@ impl<'a, E: Beat, G: Gate, C: Clock> Worker<Shared<'a, G, C>>
     ghost has_run = { λ shared old new. HasFed E.seen shared.pool.now shared.desk.now shared.run_flushes old new };
 
     fn run<R: Wait + Log>(&mut self, rt: &R, shared: &Shared<'a, G, C>) {
-        let post = &mut *self.post;
-        self.fed = flush_all_out(
-            rt,
-            shared,
-            &mut post.own,
-            &mut post.seat,
-            &mut post.tables,
-            self.form,
-            self.beat,
-            self.outs,
-        );
+        self.flushed = flush_all(rt, shared, self.post, self.form, self.beat, self.leads);
     }
 }
 
@@ -147,6 +127,8 @@ impl<'a, B: Backend, G: Gate, C: Clock> Worker<Shared<'a, G, C>> for Draining<'_
     ghost has_run = { λ shared old new. HasDrained B.seen old new };
 
     fn run<R: Wait + Log>(&mut self, rt: &R, shared: &Shared<'a, G, C>) {
-        self.worked = self.outlet.work(rt, self.drain, self.back, shared.gate);
+        self.worked = self
+            .outlet
+            .work(rt, &mut self.drain, self.back, shared.gate);
     }
 }

@@ -1,25 +1,26 @@
-ghost use Rattle.std.specs.Prelude.{Bool, IfSome};
+ghost use Rattle.std.specs.Prelude.{◌≡◌, Bool, IfSome};
+ghost use Rattle.sd_model_serve.specs.Rounds.{OutletRoom};
 ghost use Rattle.sd_pool.specs.Pool.{own_at};
 ghost use Rattle.sd_shared_desk.specs.Shared.{part_of};
-ghost use Rattle.sd_flush.specs.Flushing.{Flushes, back_of, form_of, uses};
+ghost use Rattle.sd_flush.specs.Delivery.{GivesBackends, back_of, uses};
+ghost use Rattle.sd_flush.specs.Flushing.{Flushes, form_of};
 ghost use Rattle.sd_serve.specs.OutRoom.{AreOutRooms, HasOutRooms};
 ghost use Rattle.sd_serve.specs.Through.{FlushesThrough};
 ghost use Rattle.sd_serve.specs.Workers.{AreReady, HaveRun, held, sights};
-ghost use Rattle.sd_model_serve.specs.Rounds.{OutletRoom};
 
 use crate::objects::ObjectsOf;
 use crate::out_room::OutRooms;
+use crate::outlets::{OutCounts, run_through_outlets};
 use crate::run_settings::RunSettings;
 use crate::services::ServicePosts;
 use crate::work::{AdminWork, Flushing, LineWork};
-use crate::workers_out::{OutCounts, run_server_out};
 use log::Log;
 use sd_flush::Flushed;
 use sd_outside::{DoorEnd, Ended};
 use sd_receive::Post;
 use sd_run::ObjectTypes;
 use sd_shared::Shared;
-use sd_workers::run_with_third;
+use sd_workers::run_workers;
 use std::sync::Wait;
 use std::thread::Threads;
 
@@ -31,8 +32,15 @@ pub struct Ends {
     pub line_reader: Option<DoorEnd>,
 }
 
+/// No round was made yet.
+pub(crate) const NOT_FLUSHED: Flushed = Flushed {
+    ended: Ended::End,
+    rounds: 0,
+    last: None,
+};
+
 // Runs the flusher, the keeper of the admin door, the reader of lines, if there is one, and the receivers side by side, each in a
-// thread of its own where the machine gives one, until all have ended.
+// thread of its own where the machine gives one, until all have ended. The flusher writes to the backends itself.
 fn run_server<K: ObjectTypes, R: Threads + Wait + Log + Sync>(
     rt: &R,
     shared: &Shared<'_, K::G, K::T>,
@@ -43,18 +51,15 @@ fn run_server<K: ObjectTypes, R: Threads + Wait + Log + Sync>(
 ) -> Ends
     requires ready { AreReady (sights K.D.seen K.L.seen K.P.seen K.B.seen K.E.seen K.S.seen) shared.now (held services.old posts.old objects.old) }
     ensures ran { HaveRun (sights K.D.seen K.L.seen K.P.seen K.B.seen K.E.seen K.S.seen) shared.now (K.T.may_say shared.now.clock.now) run_settings.now.settings.now (held services.old posts.old objects.old) (held services.new posts.new objects.new) result }
-    ensures flushes { Flushes (form_of shared.now.pool.now run_settings.now.form.plan.now run_settings.now.form.names.now) (uses objects.old.backs.now) shared.now.run_flushes (own_at services.old.flusher.seat) (own_at services.new.flusher.seat) (part_of services.old.flusher.own) (part_of services.new.flusher.own)
-        (back_of K.B.seen objects.old.backs.now) (back_of K.B.seen objects.new.backs.now) (K.P.seen objects.old.beat.now) (K.P.seen objects.new.beat.now) result.flusher }
+    ensures flushes { Flushes (form_of shared.now.pool.now run_settings.now.form.plan.now run_settings.now.form.names.now) (GivesBackends K.B.seen) (λ old new. new ≡ old) shared.now.run_flushes (own_at services.old.flusher.seat) (own_at services.new.flusher.seat)
+        (part_of services.old.flusher.own) (part_of services.new.flusher.own) objects.old.backs.now objects.new.backs.now (K.P.seen objects.old.beat.now) (K.P.seen objects.new.beat.now) result.flusher }
 {
     let mut flushing = Flushing {
         post: &mut services.flusher,
         form: &run_settings.form,
         backs: &mut *objects.backs,
         beat: &mut *objects.beat,
-        flushed: Flushed {
-            ended: Ended::End,
-            last: None,
-        },
+        flushed: NOT_FLUSHED,
     };
     let mut admin_work = AdminWork {
         post: &mut services.admin,
@@ -67,7 +72,7 @@ fn run_server<K: ObjectTypes, R: Threads + Wait + Log + Sync>(
         door: &mut *objects.streams,
         ended: None,
     };
-    run_with_third(
+    run_workers(
         rt,
         shared,
         &mut flushing,
@@ -103,6 +108,14 @@ pub(crate) fn run_all<K: ObjectTypes, R: Threads + Wait + Log + Sync>(
         let ends = run_server::<K, R>(rt, shared, run_settings, services, posts, objects);
         return (ends, None);
     };
-    let out = run_server_out::<K, R>(rt, shared, run_settings, services, posts, outs, objects);
-    (out.ends, Some(out.counts))
+    let (ends, counts) = run_through_outlets::<K, R>(
+        rt,
+        shared,
+        run_settings,
+        services,
+        posts,
+        outs,
+        objects,
+    );
+    (ends, Some(counts))
 }

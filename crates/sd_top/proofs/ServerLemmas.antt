@@ -25,7 +25,8 @@ use Rattle.sd_pool.specs.Books.{IsBookOf, no_book}
 use Rattle.sd_serve.specs.Serving.{HasServed as Ran, end_of}
 use Rattle.sd_serve.specs.Through.{AreCounted, has_counts}
 use Rattle.sd_serve.specs.declared.serving.Served.{Served}
-use Rattle.sd_serve.specs.declared.workers_out.OutCounts.{OutCounts}
+use Rattle.sd_flush.specs.declared.per_backend.PerBackend.{PerBackend}
+use Rattle.sd_serve.specs.declared.outlets.OutCount.{OutCount}
 use Rattle.sd_shard.specs.Shard.{numbers_in}
 use Rattle.sd_shard.specs.declared.shard.ShardBook.{ShardBook}
 use Rattle.sd_top.specs.Serving.{ends_of, lines_in, skips_in, totals_in}
@@ -52,13 +53,13 @@ numbers_of_books states books n count are =
           λ i. record { rows = is.rows i; held = is.held i; taken = is.taken i; flushed = is.flushed i; deleted = is.deleted i; dropped = is.dropped i }
 
 -- the texts that outlets skipped are those of the run
-skips_are : (s : file.Settings) (c : ServerTrace) (outs : Option OutCounts) → has_counts outs ≡ has_outlets s → AreCounted outs c.outlet_traces → skips_in outs ≡ skips_where (has_outlets s) c
+skips_are : (s : file.Settings) (c : ServerTrace) (outs : Option (PerBackend OutCount)) → has_counts outs ≡ has_outlets s → AreCounted outs c.outlet_traces → skips_in outs ≡ skips_where (has_outlets s) c
 skips_are s c None has counts = ap (λ (b : Bool). skips_where b c) has
 skips_are s c (Some outs) has counts =
     (λ i. (codes "graphite_skipped", counts.skips Graphite i) ∷ (codes "console_skipped", counts.skips Console i) ∷ []) ∙ ap (λ (b : Bool). skips_where b c) has
 
 -- the totals of books and a desk are those of the run that left them
-pub totals_are : (s : file.Settings) (c : ServerTrace) (books : List ShardBook) (desk : Desk) (outs : Option OutCounts) → desk ≡ c.desk → has_counts outs ≡ has_outlets s → AreCounted outs c.outlet_traces → length books ≡ s.sizes.shards
+pub totals_are : (s : file.Settings) (c : ServerTrace) (books : List ShardBook) (desk : Desk) (outs : Option (PerBackend OutCount)) → desk ≡ c.desk → has_counts outs ≡ has_outlets s → AreCounted outs c.outlet_traces → length books ≡ s.sizes.shards
     → ((i : ℕ) → i < s.sizes.shards → IsBookOf (get_or books i no_book) (state_after (limits_of s) (policy_of s) (c.histories i)))
     → totals_in books desk outs ++ skips_in outs ≡ run_totals s c
 totals_are s c books desk outs left has counts count are =

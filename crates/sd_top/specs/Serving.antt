@@ -15,7 +15,8 @@ use Rattle.sd_serve.specs.Room.{Sizing}
 use Rattle.sd_serve.specs.Serving.{door_end_of, end_of}
 use Rattle.sd_serve.specs.Through.{faults_at}
 use Rattle.sd_serve.specs.declared.workers.Ends.{Ends}
-use Rattle.sd_serve.specs.declared.workers_out.OutCounts.{OutCounts}
+use Rattle.sd_flush.specs.declared.per_backend.PerBackend.{PerBackend}
+use Rattle.sd_serve.specs.declared.outlets.OutCount.{OutCount}
 
 -- its sizes
 abbrev pub sizing_by : file.Settings → Sizing
@@ -26,7 +27,7 @@ abbrev pub ends_of : List Ended → Ends → Answer
 ends_of received ends = ends_answer (map end_of received) (end_of ends.flusher.ended) (door_end_of ends.keeper ∷ map door_end_of (option_to_list ends.line_reader))
 
 -- the totals of shards with these numbers and a desk, with what outlets counted, if there were any
-abbrev pub totals_in : List ShardBook → Desk → Option OutCounts → List Total
+abbrev pub totals_in : List ShardBook → Desk → Option (PerBackend OutCount) → List Total
 totals_in books desk outs =
     totals_of (λ number. sum_by number (map numbers_in books)) (record desk.facts {
       graphite_faults = desk.facts.graphite_faults + faults_at outs Graphite;
@@ -34,10 +35,10 @@ totals_in books desk outs =
     })
 
 -- how many texts each outlet skipped, if there were any
-abbrev pub skips_in : Option OutCounts → List Total
+abbrev pub skips_in : Option (PerBackend OutCount) → List Total
 skips_in None = []
-skips_in (Some outs) = (codes "graphite_skipped", outs.skips.graphite) ∷ (codes "console_skipped", outs.skips.console) ∷ []
+skips_in (Some outs) = (codes "graphite_skipped", outs.graphite.skipped) ∷ (codes "console_skipped", outs.console.skipped) ∷ []
 
 -- what is told of a run that left these
-abbrev pub lines_in : List ShardBook → Desk → Option OutCounts → List ℕ
+abbrev pub lines_in : List ShardBook → Desk → Option (PerBackend OutCount) → List ℕ
 lines_in books desk outs = totals_text (totals_in books desk outs ++ skips_in outs)

@@ -30,8 +30,9 @@ fn totals_of(books: &[ShardBook], desk: &Desk, outs: &Option<OutCounts>) -> Tota
         return totals;
     };
     Totals {
-        graphite_faults: u128::from(facts.graphite_faults) + u128::from(outs.graphite.faults),
-        console_faults: u128::from(facts.console_faults) + u128::from(outs.console.faults),
+        graphite_faults: u128::from(facts.graphite_faults)
+            + u128::from(outs.graphite.worked.faults),
+        console_faults: u128::from(facts.console_faults) + u128::from(outs.console.worked.faults),
         ..totals
     }
 }
@@ -44,12 +45,12 @@ fn lines_of(totals: &Totals, outs: &Option<OutCounts>) -> Line
     if let Some(outs) = outs {
         push_total(
             b"graphite_skipped",
-            u128::from(outs.skips.graphite),
+            u128::from(outs.graphite.skipped),
             &mut line,
         );
         push_total(
             b"console_skipped",
-            u128::from(outs.skips.console),
+            u128::from(outs.console.skipped),
             &mut line,
         );
     }

@@ -8,7 +8,7 @@ returns-clause-receivers g c =
     let cell = c.args.live.now.hub.cell.now in
     let desk = c.args.live.now.hub.desk.now in
     let slice = c.as_mut_slice-receivers in
-    let ran = c.run_with_third in
+    let ran = c.run_workers in
     let before = c.args.posts.now.receivers in
     let same = with_items_is before ran.new.others (ran.ensures.len ∙ slice.ensures.len) in
     subst (WereRun g.D.Faulty.seen g.L.Faulty.seen cell desk before.items) (sym same)

@@ -3,9 +3,7 @@ use Rattle.std.specs.List.{AllByRecursion}
 use Rattle.std.proofs.lemmas.List.{with_items_is, length-map}
 use Rattle.std.proofs.lemmas.List.Elements.{All-from_recursion}
 use Rattle.sd_desk.specs.Marks.{marks_of}
-use Rattle.sd_pool.specs.Pool.{own_at}
-use Rattle.sd_shared_desk.specs.Shared.{part_of}
-use Rattle.sd_flush.specs.Flushing.{MakesRoundAt, back_of, form_of, uses, uses_by}
+use Rattle.sd_model_record.specs.Backends.{Graphite, Console}
 use Rattle.sd_flush.specs.Tables.{waiting_in}
 use Rattle.sd_receive.specs.Posts.{IsReady, WasRun, ended_in}
 use Rattle.sd_serve.specs.Closing.{IsClosed}
@@ -14,7 +12,7 @@ use Rattle.sd_serve.specs.Room.{outlets_of, sizing_in, with_outlets}
 use Rattle.sd_serve.specs.Services.{IsCrew, IsNewCrew, all_owns, all_seats}
 use Rattle.sd_serve.specs.Serving.{end_of}
 use Rattle.sd_serve.specs.Workers.{held, sights}
-use Rattle.sd_serve.specs.declared.services.FlusherPost.{FlusherPost}
+use Rattle.sd_flush.specs.declared.post.FlusherPost.{FlusherPost}
 use Rattle.sd_serve.proofs.CrewLemmas.{all_kept, crew_kept, with_flusher}
 use Rattle.sd_serve.proofs.RoomLemmas.{rooms_ready}
 use Rattle.sd_serve.proofs.ServeLemmas.{Reports, served}
@@ -51,11 +49,11 @@ close-books-requires-clause-crew g c =
     let m = c.man-pool.result in
     let same = with_items_is m.posts ran.new.posts (ran.ensures.ran.len ∙ slice.ensures.len) in
     let round = c.round in
-    let post : FlusherPost = record { seat = round.new.seat; own = round.new.own; tables = round.new.tables } in
+    let post : FlusherPost = round.new.post in
     subst (λ l. IsCrew m.pool m.desk m.lists (with_flusher post ran.new.services) l) (sym same)
     (crew_kept (sights g.K.D.Faulty.seen g.K.L.Faulty.seen g.K.P.Faulty.seen g.K.B.Faulty.seen g.K.E.Faulty.seen g.K.S.Faulty.seen) _ (g.K.T.Clock.may_say c.args.run_settings.now.clock.now) c.args.run_settings.now.settings.now (held m.services slice.result.now c.args.objects.now) _ ran.result.0 ran.ensures.ran m.lists post
     (subst (λ l. IsCrew m.pool m.desk m.lists m.services l) (sym slice.ensures.value) c.man-pool.ensures.manned.crew)
-    (record { seat_is = round.ensures.seat; who = round.ensures.who ∙ ran.ensures.ran.flusher.who; own_is = round.ensures.own.0; tables_are = round.ensures.tables }) (round.ensures.own.1 ∙ ran.ensures.ran.number))
+    round.ensures.post (round.ensures.number ∙ ran.ensures.ran.number))
 
 pub close-books-requires-clause-packets : goal.close-books-requires-clause-packets
 close-books-requires-clause-packets g c =
@@ -88,9 +86,7 @@ returns-clause-served g c =
     let ys = ran.new.posts in
     let same = with_items_is m.posts ys (ran.ensures.ran.len ∙ c.as_mut_slice.ensures.len) in
     let says = g.K.T.Clock.may_say c.args.run_settings.now.clock.now in
-    let post : FlusherPost = record { seat = round.new.seat; own = round.new.own; tables = round.new.tables } in
-    let flags : uses ran.new.objects.backs.now ≡ uses c.args.objects.now.backs.now = (λ i. uses_by (ran.ensures.ran.graphite_flag i) (ran.ensures.ran.console_flag i)) in
-    let form = form_of m.pool c.args.run_settings.now.form.plan.now c.args.run_settings.now.form.names.now in
+    let post : FlusherPost = round.new.post in
     let reports : Reports (sights g.K.D.Faulty.seen g.K.L.Faulty.seen g.K.P.Faulty.seen g.K.B.Faulty.seen g.K.E.Faulty.seen g.K.S.Faulty.seen) _ says c.args.run_settings.now.form.plan.now c.args.run_settings.now.form.names.now c.args.run_settings.now.settings.now (sizing_in c.args.room) = record {
       old = held m.services c.as_mut_slice.result.now c.args.objects.now;
       new = held ran.new.services ys ran.new.objects;
@@ -112,19 +108,24 @@ returns-clause-served g c =
       wires_left = c.close-books.ensures.wires ∙ ap (λ l. flat_map wires_in l ++ c.man-pool.new.wires.items) same;
       flushes = ran.ensures.flushes (with_outlets (sizing_in c.args.room)) (outlets_of (sizing_in c.args.room)) manned.outs;
       post = post;
-      backs = round.new.backs;
+      backs = round.new.delivery;
       ts = c.last_round_at.result;
       marks = marks_of round.result;
-      waiting = waiting_in round.new.tables;
-      last = subst (λ used. MakesRoundAt form used c.last_round_at.result (marks_of round.result) (own_at ran.new.services.flusher.seat) (own_at round.new.seat) (part_of ran.new.services.flusher.own) (part_of round.new.own)
-          (back_of g.K.B.Faulty.seen ran.new.objects.backs.now) (back_of g.K.B.Faulty.seen round.new.backs) (waiting_in round.new.tables)) flags round.ensures.round;
+      waiting = waiting_in round.new.post.tables;
+      last = round.ensures.round;
       reported_so = (c.last.result, c.last.ensures, c.last_round_at.ensures);
       lists = m.lists;
       crew = crew_kept (sights g.K.D.Faulty.seen g.K.L.Faulty.seen g.K.P.Faulty.seen g.K.B.Faulty.seen g.K.E.Faulty.seen g.K.S.Faulty.seen) _ says c.args.run_settings.now.settings.now (held m.services c.as_mut_slice.result.now c.args.objects.now) _ ran.result.0 ran.ensures.ran m.lists post
           (subst (λ l. IsCrew m.pool m.desk m.lists m.services l) (sym value) manned.crew)
-          (record { seat_is = round.ensures.seat; who = round.ensures.who ∙ ran.ensures.ran.flusher.who; own_is = round.ensures.own.0; tables_are = round.ensures.tables }) (round.ensures.own.1 ∙ ran.ensures.ran.number);
+          round.ensures.post (round.ensures.number ∙ ran.ensures.ran.number);
       closed = subst (λ l. IsClosed m.pool m.desk (all_seats (with_flusher post ran.new.services) l) (all_owns (with_flusher post ran.new.services) l) c.close-books.result.0.items c.close-books.result.1) same c.close-books.ensures.closed;
       start = subst says (sym manned.start) c.requires.start;
     } in
     served (sights g.K.D.Faulty.seen g.K.L.Faulty.seen g.K.P.Faulty.seen g.K.B.Faulty.seen g.K.E.Faulty.seen g.K.S.Faulty.seen) _ says c.args.run_settings.now.form.plan.now c.args.run_settings.now.form.names.now c.args.run_settings.now.settings.now (sizing_in c.args.room) reports manned.pool
     (ap (map end_of) (c.ends_in-received.ensures ∙ ap (map ended_in) (c.deref.ensures.value ∙ same)))
+
+pub returns-clause-graphite_flag : goal.returns-clause-graphite_flag
+returns-clause-graphite_flag g c = c.round.ensures.round.made.given.same_use Graphite ∙ c.run_all-counts.ensures.ran.same_use Graphite
+
+pub returns-clause-console_flag : goal.returns-clause-console_flag
+returns-clause-console_flag g c = c.round.ensures.round.made.given.same_use Console ∙ c.run_all-counts.ensures.ran.same_use Console

@@ -6,7 +6,7 @@ use Rattle.sd_model_record.specs.Backends.{Backend, Graphite, Console}
 use Rattle.sd_model_run.specs.Run.{RunSettings, Objects}
 use Rattle.sd_model_call.specs.Opening.{Flags, World}
 use Rattle.sd_model_call.specs.Server.{back_in, has_streams, objects_in, server_openings, run_settings_of}
-use Rattle.sd_flush.specs.Flushing.{back_of, uses_by}
+use Rattle.sd_flush.specs.Delivery.{back_of, uses}
 use Rattle.sd_outside.specs.declared.backend.Backs.{Backs}
 use Rattle.sd_serve.specs.Room.{outlets_of, sizing_in, start_in}
 use Rattle.sd_serve.specs.Serving.{HasServed, end_of, objects_of, run_settings_in}
@@ -42,9 +42,9 @@ serve-requires-clause-door g c κs within =
     (ap (λ (o : Object). o.is_out) opened_there ∙ c.requires.door.0, let turns = ap (λ (o : Object). o.turns) opened_there in let few = c.requires.door.1 in omega (arith, turns, few))
 
 -- the backends that the flags say are used are those that the settings name
-used_as : (s : _) (graphite console : _) → graphite ≡ (is_used s Graphite) → console ≡ (is_used s Console) → (b : Backend) → uses_by graphite console b ≡ is_used s b
-used_as s graphite console g c Graphite = g
-used_as s graphite console g c Console = c
+used_as : {B : Type 0} (s : _) (backs : Backs B) → backs.graphite_used ≡ (is_used s Graphite) → backs.console_used ≡ (is_used s Console) → (b : Backend) → uses backs b ≡ is_used s b
+used_as s backs g c Graphite = g
+used_as s backs g c Console = c
 
 -- what is seen of a backend
 seen_as : {B : Type 0} (see : B → Object) (backs : Backs B) (w : World) → w.seen.graphite ≡ see backs.graphite → w.seen.console ≡ see backs.console → (b : Backend) → back_of see backs b ≡ back_in w b
@@ -70,7 +70,7 @@ returns-clause-served g c =
     let opened = c.in_ok-open_server.ensures.opened in
     let sizes = c.in-Ok.ensures.sizes ∙ c.sizes_of.ensures.sizes in
     let flags = c.in_ok-open_server.ensures.flags ∙ c.requires.flags in
-    let used = used_as s mid.backs.graphite_used mid.backs.console_used (ap (λ (f : Flags). f.graphite) flags) (ap (λ (f : Flags). f.console) flags) in
+    let used = used_as s mid.backs (ap (λ (f : Flags). f.graphite) flags) (ap (λ (f : Flags). f.console) flags) in
     let flushes = c.from.ensures ∙ c.run_flushes.ensures.value in
     let run_settings : run_settings_in (sizing_in c.in-Ok.room) c.plan.result.now c.of-names.result s mid.backs c.from.result ≡ run_settings_of s = (λ i. record {
       limits = (sizes i).limits;
