@@ -1,3 +1,4 @@
 pub mod WordPlaces
 pub mod TotalsLines
 pub mod WordLemmas
+pub mod TakeLemmas

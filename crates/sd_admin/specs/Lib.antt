@@ -2,3 +2,4 @@ pub mod Command
 pub mod Reply
 pub mod Order
 pub mod Words
+pub mod Totals

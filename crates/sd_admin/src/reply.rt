@@ -5,16 +5,15 @@ ghost use Rattle.sd_admin.specs.Order.{IsInOrder};
 ghost use Rattle.sd_admin.specs.Reply.{reply_view};
 
 use crate::command::AdminFault;
+use crate::known_totals;
 use crate::reply_lines::{
     config_line, end_line, fault_line, gone_line, health_line, rows_line, stats_line, totals_line,
 };
-use sd_config::Settings;
-use sd_config_text::{LineText, ReplyLine, config_line_count, write_lines};
+use sd_config::{LineText, ReplyLine, Settings, config_line_count, write_lines};
 use sd_desk::DeskFacts;
 use sd_key::{Kind, Pattern};
 use sd_outside::{Failed, Sink, WriteFault};
 use sd_shard::{Books, Dump, Keys};
-use sd_totals::known_totals;
 
 /// What a reply tells. The reply to a deletion is `Gone` for each of its names, and `Finish`. Each other form is a whole reply.
 #[derive(Clone, Copy, Debug)]

@@ -6,18 +6,17 @@ ghost use Rattle.sd_key.specs.Kind.{kind_of};
 ghost use Rattle.sd_model_record.specs.Totals.{known_before_end, total_line, totals_of};
 ghost use Rattle.sd_shard.specs.Dump.{dump_row_of, rows_of};
 ghost use Rattle.sd_shard.specs.Shard.{numbers_in};
-ghost use Rattle.sd_totals.specs.Totals.{totals_view};
+ghost use Rattle.sd_admin.specs.Totals.{totals_view};
 ghost use Rattle.sd_desk.specs.Facts.{facts_view};
 ghost use Rattle.sd_admin.specs.Command.{fault_view};
 
 use crate::command::AdminFault;
-use sd_config::Settings;
-use sd_config_text::{ReplyLine, config_line_count, line_of, number_line, push_text};
+use crate::{Totals, known_totals, push_total};
+use sd_config::{ReplyLine, Settings, config_line_count, line_of, number_line, push_text};
 use sd_decimal::{Line, write, write_whole};
 use sd_desk::DeskFacts;
 use sd_key::{Kind, Pattern};
 use sd_shard::{Books, Dump, DumpRow, Keys, ShardBook};
-use sd_totals::{Totals, known_totals, push_total};
 
 /// The line of a text, which ends with a newline.
 fn text_line(text: &[u8]) -> ReplyLine
@@ -184,7 +183,7 @@ pub(crate) fn config_line(settings: &Settings, place: usize) -> Option<ReplyLine
 {
     let lines = config_line_count(settings);
     if place < lines {
-        sd_config_text::config_line(settings, place)
+        sd_config::config_line(settings, place)
     } else {
         end_line(place - lines)
     }

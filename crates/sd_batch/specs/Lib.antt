@@ -2,3 +2,4 @@ pub mod Batch
 pub mod Places
 pub mod Inside
 pub mod Runs
+pub mod Filing

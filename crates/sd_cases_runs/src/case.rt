@@ -11,11 +11,11 @@ use crate::passing::{MemWorld, with_gate};
 use crate::traffic::Traffic;
 use log::sink::Discard;
 use sd_case::{Refusal, bytes_of, number, set_number};
-use sd_drill::{Drill, MOST_PACKETS};
 use sd_memory::{
     MemBackend, MemBeat, MemClock, MemDatagrams, MemDoor, MemProbe, MemSink, MemSource, MemWire,
 };
 use sd_outside::{Backs, NoGate, read_full};
+use sd_script::{Drill, MOST_PACKETS};
 use sd_top::World;
 use std::alloc::Global;
 use std::num::NonZeroUsize;

@@ -3,8 +3,7 @@ use crate::read_calls::{
     CALLS, show_histogram, show_names, show_texts, show_thresholds, show_value,
 };
 use sd_case::{Answer, Refusal, bytes_of, number};
-use sd_config::{ConfigFault, NamesOf, Settings};
-use sd_config_text::{ConfigText, config_line};
+use sd_config::{ConfigFault, NamesOf, Settings, config_line};
 use sd_memory::MemSink;
 use sd_outside::{Failed, Name};
 use sd_plan::{Names, Reckoning};

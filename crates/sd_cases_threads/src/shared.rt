@@ -1,7 +1,7 @@
 //! Two threads submit, one of them by runs of a batch, and a third swaps.
 ghost use Rattle.std.specs.Prelude.{◌≡◌, ℕ, ◌+◌, ◌<◌, IfOk, get_or};
 ghost use Rattle.sd_model_text.specs.Names.{shard};
-ghost use Rattle.sd_spares.specs.Tables.{IsSpare};
+ghost use Rattle.sd_shard.specs.Tables.{IsSpare};
 ghost use Rattle.sd_pool.specs.Pool.{IsSeatOf, limits_of, own_at, shards_of};
 ghost use Rattle.sd_cases_threads.specs.Submitted.{submitted};
 

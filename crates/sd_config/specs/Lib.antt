@@ -2,3 +2,4 @@ pub mod Answers
 pub mod Values
 pub mod Groups
 pub mod Reported
+pub mod ConfigText

@@ -7,8 +7,8 @@ use Rattle.std.specs.Fmt.{decimal}
 use Rattle.sd_model_settings.specs.Entries.{sends}
 use Rattle.sd_model_record.specs.Record.{Row, CounterRow, TimerRow, GaugeRow, SetRow, TimerFigures, Record, Figure, figures_of}
 use Rattle.sd_model_record.specs.Backends.{console_row, console_count, console_text}
-use Rattle.sd_text.specs.Rows.{rows_text}
-use Rattle.sd_text.proofs.RowLemmas.{concat-sent, flat_map-same}
+use Rattle.sd_record.specs.RowTexts.{rows_text}
+use Rattle.sd_record.proofs.RowLemmas.{concat-sent, flat_map-same}
 use Rattle.sd_console.specs.Texts.{counter_line, sent_line, gauge_line, set_line, row_texts, count_texts}
 use Rattle.sd_model_record.proofs.Short.{console_figure}
 

@@ -1,7 +1,6 @@
 use crate::record::write_record;
 use sd_outside::{Sink, WriteFault};
-use sd_record::Record;
-use sd_text::RecordText;
+use sd_record::{Record, RecordText};
 
 /// The console's text.
 #[derive(Clone, Copy)]

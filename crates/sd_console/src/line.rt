@@ -4,8 +4,7 @@ ghost use Rattle.sd_record.specs.Record.{record_view};
 ghost use Rattle.sd_console.specs.Texts.{count_texts};
 
 use sd_decimal::Line;
-use sd_record::Record;
-use sd_text::{push_text, push_whole};
+use sd_record::{Record, push_text, push_whole};
 
 /// The line of a word and a Unix second.
 pub(crate) fn second_line(word: &[u8], ts: u64) -> Line

@@ -6,8 +6,7 @@ ghost use Rattle.sd_record.specs.Record.{record_view, room_of, SameScratch};
 use crate::line::{count_lines, second_line};
 use crate::row::ConsoleRows;
 use sd_outside::{Sink, WriteFault};
-use sd_record::Record;
-use sd_text::{write_line, write_lines, write_rows};
+use sd_record::{Record, write_line, write_lines, write_rows};
 
 /// Writes the console's text of a record: the flush, the lines of each row, of a timer those that are sent, the server's
 /// own counts and the number of rows, and the end. No memory is taken.

@@ -5,8 +5,7 @@ ghost use Rattle.sd_console.specs.Texts.{counter_line, sent_line, gauge_line, se
 use sd_decimal::{Line, Micro, Sum};
 use sd_key::Key;
 use sd_plan::Calculated;
-use sd_record::{FigureParts, Row};
-use sd_text::{RowText, push_number, push_text, push_whole};
+use sd_record::{FigureParts, Row, RowText, push_number, push_text, push_whole};
 
 /// How the console gets the rows of a record, where these classes of timers' lines are chosen.
 #[derive(Clone, Copy)]

@@ -10,8 +10,7 @@ use sd_desk::{Mark, RoundMarks};
 use sd_graphite::GraphiteText;
 use sd_outside::{Backend, Backs, Failed};
 use sd_plan::Names;
-use sd_record::Record;
-use sd_text::RecordText;
+use sd_record::{Record, RecordText};
 
 /// Gives a backend the text of a record, in a list that is begun and ended. After the first call that fails it isn't
 /// called again. Where its count of faults doesn't rise, the text was written.

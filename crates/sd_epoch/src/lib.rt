@@ -4,7 +4,7 @@
 //! moves. The values of timers and the members of sets stand apart, each with the place of its row, and are chained, so that none
 //! of them is searched for. A counter's and a gauge's sample takes no room of its own.
 //!
-//! `sd_shard` files samples into a table and swaps it, `sd_spares` keeps those that wait, and `sd_record` reads what their rows
+//! `sd_shard` files samples into a table and swaps it, `sd_shard` keeps those that wait, and `sd_record` reads what their rows
 //! come to. All memory is taken in `open`. A table admits and deletes nothing of itself: that is for `sd_shard` to say.
 #![tactic(auto)]
 

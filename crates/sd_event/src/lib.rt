@@ -6,6 +6,7 @@
 //! can fail, and no clause speaks of what is told.
 #![tactic(auto)]
 
+mod fields;
 mod incidents;
 mod links;
 mod runs;

@@ -1,16 +1,19 @@
-use log::kv::{Error, Primitive, Source, Value, VisitSource};
-use log::{Level, Log, Metadata, Record, error};
+use crate::fields::FieldValue::{self, Bytes, Number, Word};
+use crate::fields::{PlainField, tell, tell_all};
+use log::kv::{Error, Source, VisitSource};
+use log::{Level, Log};
 use std::str;
 
 /// Something couldn't be opened: which object, and where it should have been.
 pub fn refused<L: Log>(log: &L, object: &str, address: &[u8]) {
-    let address = address.escape_ascii();
-    error!(log; object, address:%; "refused");
+    let fields = [("object", Word(object)), ("address", Bytes(address))];
+    tell(log, Level::Error, "refused", &fields);
 }
 
 /// Something couldn't be had, for this reason.
 pub fn refused_with<L: Log>(log: &L, object: &str, reason: &str) {
-    error!(log; object, reason; "refused");
+    let fields = [("object", Word(object)), ("reason", Word(reason))];
+    tell(log, Level::Error, "refused", &fields);
 }
 
 /// What is wrong with a setting of a file: in which line it stands, counted from 1, and what stands there, where that was found.
@@ -26,43 +29,28 @@ pub struct SettingRefused<'a> {
 
 /// A settings file isn't accepted, because of a setting.
 pub fn refused_setting<L: Log>(log: &L, refused: &SettingRefused<'_>) {
-    let file = refused.file.escape_ascii();
-    let setting = refused.setting.escape_ascii();
-    let found = refused.found.escape_ascii();
-    let (reason, line, allowed) = (refused.reason, refused.line, refused.allowed);
-    error!(log; object = "settings", file:%, reason, setting:%, line, found:%, allowed; "refused");
+    let fields = [
+        ("object", Word("settings")),
+        ("file", Bytes(refused.file)),
+        ("reason", Word(refused.reason)),
+        ("setting", Bytes(refused.setting)),
+        ("line", FieldValue::number(refused.line)),
+        ("found", Bytes(refused.found)),
+        ("allowed", Word(refused.allowed)),
+    ];
+    tell(log, Level::Error, "refused", &fields);
 }
 
 /// A settings file isn't TOML from this line and column on, both counted from 1.
 pub fn refused_toml<L: Log>(log: &L, file: &[u8], line: u64, column: u64) {
-    let file = file.escape_ascii();
-    error!(log; object = "settings", file:%, reason = "not TOML", line, column; "refused");
-}
-
-/// Tells an event of a run with the pairs of a source.
-fn tell<L: Log, K: Source>(log: &L, event: &str, pairs: &K) {
-    let metadata = Metadata::new(Level::Info, "");
-    if log.enabled(&metadata) {
-        log.log(&Record::new(metadata, event, pairs, ()));
-    }
-}
-
-/// A pair of a key and bytes, which are shown escaped.
-fn visit_bytes<V: VisitSource>(visitor: &mut V, key: &str, bytes: &[u8]) -> Result<(), Error> {
-    let shown = bytes.escape_ascii();
-    visitor.visit_pair(key, Value::Display(&shown))
-}
-
-/// A pair of a key and a text.
-fn visit_text<V: VisitSource>(visitor: &mut V, key: &str, text: &str) -> Result<(), Error> {
-    let value: Value<'_, Primitive> = Value::Str(text);
-    visitor.visit_pair(key, value)
-}
-
-/// A pair of a key and a number.
-fn visit_number<V: VisitSource>(visitor: &mut V, key: &str, number: u32) -> Result<(), Error> {
-    let value: Value<'_, Primitive> = Value::U64(u64::from(number));
-    visitor.visit_pair(key, value)
+    let fields = [
+        ("object", Word("settings")),
+        ("file", Bytes(file)),
+        ("reason", Word("not TOML")),
+        ("line", Number(line)),
+        ("column", Number(column)),
+    ];
+    tell(log, Level::Error, "refused", &fields);
 }
 
 /// Where a server or a proxy listens: for datagrams and lines over TCP at one address, and for admin sessions at another.
@@ -75,18 +63,19 @@ pub struct Places<'a> {
     pub mgmt_port: Option<u32>,
 }
 
-impl Source for Places<'_> {
-    fn visit<V: VisitSource>(&self, visitor: &mut V) -> Result<(), Error> {
-        visit_bytes(visitor, "address", self.address)?;
-        visit_number(visitor, "port", self.port)?;
-        if let Some(port) = self.tcp_port {
-            visit_number(visitor, "tcp_port", port)?;
-        }
-        if let Some(port) = self.mgmt_port {
-            visit_bytes(visitor, "mgmt_address", self.mgmt_address)?;
-            visit_number(visitor, "mgmt_port", port)?;
-        }
-        Ok(())
+impl<'a> Places<'a> {
+    fn fields(&self) -> [PlainField<'a>; 5] {
+        let mgmt_address = match self.mgmt_port {
+            Some(_) => Bytes(self.mgmt_address),
+            None => FieldValue::Nothing,
+        };
+        [
+            ("address", Bytes(self.address)),
+            ("port", Number(u64::from(self.port))),
+            ("tcp_port", FieldValue::number(self.tcp_port)),
+            ("mgmt_address", mgmt_address),
+            ("mgmt_port", FieldValue::number(self.mgmt_port)),
+        ]
     }
 }
 
@@ -102,28 +91,24 @@ pub struct ServerParts<'a> {
     pub receivers: u32,
 }
 
-impl ServerParts<'_> {
-    fn visit_sizes<V: VisitSource>(&self, visitor: &mut V) -> Result<(), Error> {
-        visit_number(visitor, "shards", self.shards)?;
-        visit_number(visitor, "rows", self.rows)?;
-        visit_number(visitor, "entries", self.entries)?;
-        visit_number(visitor, "receivers", self.receivers)
-    }
-}
-
-impl Source for ServerParts<'_> {
-    fn visit<V: VisitSource>(&self, visitor: &mut V) -> Result<(), Error> {
-        visit_text(visitor, "form", "serve")?;
-        visit_text(visitor, "version", self.version)?;
-        self.places.visit(visitor)?;
-        visit_text(visitor, "backends", self.backends)?;
-        self.visit_sizes(visitor)
-    }
-}
-
 /// All of a server is open.
 pub fn server_started<L: Log>(log: &L, parts: &ServerParts<'_>) {
-    tell(log, "started", parts);
+    let [address, port, tcp_port, mgmt_address, mgmt_port] = parts.places.fields();
+    let fields = [
+        ("form", Word("serve")),
+        ("version", Word(parts.version)),
+        address,
+        port,
+        tcp_port,
+        mgmt_address,
+        mgmt_port,
+        ("backends", Word(parts.backends)),
+        ("shards", Number(u64::from(parts.shards))),
+        ("rows", Number(u64::from(parts.rows))),
+        ("entries", Number(u64::from(parts.entries))),
+        ("receivers", Number(u64::from(parts.receivers))),
+    ];
+    tell(log, Level::Info, "started", &fields);
 }
 
 /// What a proxy has open, and of how many nodes and receivers.
@@ -135,19 +120,21 @@ pub struct ProxyParts<'a> {
     pub receivers: u32,
 }
 
-impl Source for ProxyParts<'_> {
-    fn visit<V: VisitSource>(&self, visitor: &mut V) -> Result<(), Error> {
-        visit_text(visitor, "form", "proxy")?;
-        visit_text(visitor, "version", self.version)?;
-        self.places.visit(visitor)?;
-        visit_number(visitor, "nodes", self.nodes)?;
-        visit_number(visitor, "receivers", self.receivers)
-    }
-}
-
 /// All of a proxy is open.
 pub fn proxy_started<L: Log>(log: &L, parts: &ProxyParts<'_>) {
-    tell(log, "started", parts);
+    let [address, port, tcp_port, mgmt_address, mgmt_port] = parts.places.fields();
+    let fields = [
+        ("form", Word("proxy")),
+        ("version", Word(parts.version)),
+        address,
+        port,
+        tcp_port,
+        mgmt_address,
+        mgmt_port,
+        ("nodes", Number(u64::from(parts.nodes))),
+        ("receivers", Number(u64::from(parts.receivers))),
+    ];
+    tell(log, Level::Info, "started", &fields);
 }
 
 /// A status, and lines of totals with a name and a number each.
@@ -159,13 +146,13 @@ struct End<'a> {
 
 impl Source for End<'_> {
     fn visit<V: VisitSource>(&self, visitor: &mut V) -> Result<(), Error> {
-        visit_number(visitor, "status", u32::from(self.status))?;
+        ("status", u64::from(self.status)).visit(visitor)?;
         let Ok(totals) = str::from_utf8(self.totals) else {
             return Ok(());
         };
         for line in totals.lines() {
             if let Some((name, number)) = line.split_once(' ') {
-                visit_text(visitor, name, number)?;
+                (name, number).visit(visitor)?;
             }
         }
         Ok(())
@@ -174,5 +161,5 @@ impl Source for End<'_> {
 
 /// A run has ended, with this status and these lines of totals.
 pub fn stopped<L: Log>(log: &L, status: u8, totals: &[u8]) {
-    tell(log, "stopped", &End { status, totals });
+    tell_all(log, Level::Info, "stopped", &End { status, totals });
 }

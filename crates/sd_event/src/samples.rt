@@ -1,4 +1,6 @@
-use log::{Log, warn};
+use crate::fields::FieldValue::{Bytes, Number, Word};
+use crate::fields::tell;
+use log::{Level, Log};
 
 /// How many bytes of a bad line are told.
 const SHOWN: usize = 80;
@@ -9,8 +11,8 @@ pub fn bad_line<L: Log>(log: &L, cause: &str, line: &[u8]) {
         Some(prefix) => prefix,
         None => line,
     };
-    let line = prefix.escape_ascii();
-    warn!(log; cause, line:%; "bad");
+    let fields = [("cause", Word(cause)), ("line", Bytes(prefix))];
+    tell(log, Level::Warn, "bad", &fields);
 }
 
 /// A shard's table that is full: how much of it is used, and how much there may be.
@@ -24,12 +26,13 @@ pub struct Full {
 
 /// So many samples found no room at their shard; one of them has this key.
 pub fn samples_dropped<L: Log>(log: &L, samples: u64, full: Full, key: &[u8]) {
-    let key = key.escape_ascii();
-    let Full {
-        shard,
-        table,
-        used,
-        limit,
-    } = full;
-    warn!(log; samples, shard, table, used, limit, key:%; "dropped");
+    let fields = [
+        ("samples", Number(samples)),
+        ("shard", Number(u64::from(full.shard))),
+        ("table", Word(full.table)),
+        ("used", Number(full.used)),
+        ("limit", Number(full.limit)),
+        ("key", Bytes(key)),
+    ];
+    tell(log, Level::Warn, "dropped", &fields);
 }

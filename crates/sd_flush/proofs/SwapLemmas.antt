@@ -10,7 +10,7 @@ use Rattle.sd_model_shard.specs.Shard.{Table}
 use Rattle.sd_model_shard.specs.History.{History}
 use Rattle.sd_flush.specs.Made.{table_at}
 use Rattle.sd_epoch.specs.Table.{Listing, table_of}
-use Rattle.sd_spares.specs.Spares.{Stock}
+use Rattle.sd_shard.specs.Spares.{Stock}
 use Rattle.sd_flush.specs.Swapping.{swap_at}
 use Rattle.sd_model_serve.proofs.Short.{swap_of}
 

@@ -6,7 +6,7 @@ use Rattle.sd_pool.specs.Adding.{Adds}
 use Rattle.sd_flush.specs.Made.{table_at}
 use Rattle.sd_epoch.specs.Table.{Listing, live_of, table_of}
 use Rattle.sd_record.specs.Rows.{AreDisjoint}
-use Rattle.sd_spares.specs.Spares.{Stock}
+use Rattle.sd_shard.specs.Spares.{Stock}
 use Rattle.sd_pool.specs.Setup.{OnlyOf}
 use Rattle.sd_pool.specs.Pool.{Acts, act_by, own_at, shards_of}
 use Rattle.sd_pool.specs.declared.pool.Pool.{Pool}

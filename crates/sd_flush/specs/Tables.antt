@@ -3,7 +3,7 @@ use Rattle.std.specs.Prelude.{◌≡◌, ℕ, List, [], length, Option}
 use Rattle.sd_model_shard.specs.Shard.{Limits}
 use Rattle.sd_rows.specs.declared.row.Row.{Row}
 use Rattle.sd_record.specs.Room.{room_for}
-use Rattle.sd_spares.specs.Spares.{Stock}
+use Rattle.sd_shard.specs.Spares.{Stock}
 use Rattle.sd_model_serve.specs.Receiving.{flusher}
 use Rattle.sd_pool.specs.Pool.{IsSeatOf, limits_of, shards_of, who_is}
 use Rattle.sd_pool.specs.declared.pool.Pool.{Pool}

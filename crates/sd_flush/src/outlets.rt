@@ -17,8 +17,7 @@ use sd_graphite::GraphiteText;
 use sd_outlet::{Feed, OutBuf, Outlet, QueueFull, buffers_keep_what_fits};
 use sd_outside::CountSink;
 use sd_plan::Names;
-use sd_record::Record;
-use sd_text::RecordText;
+use sd_record::{Record, RecordText};
 use std::sync::Wait;
 
 // How many sends a feed may make.

@@ -20,8 +20,8 @@ use log::Log;
 use sd_desk::{RoundMarks, Tally};
 use sd_outside::Gate;
 use sd_record::{Record, RecordScratch};
+use sd_shard::Spares;
 use sd_shared::Shared;
-use sd_spares::Spares;
 use std::sync::Wait;
 
 /// The place of a gate behind the last swap of a round.

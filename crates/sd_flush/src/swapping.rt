@@ -4,7 +4,7 @@ ghost use Rattle.sd_pool.specs.Pool.{IsSeatOf, limits_of, shards_of, who_is};
 ghost use Rattle.sd_flush.specs.Swapping.{SwapsOne, SwapsAll};
 
 use sd_pool::{Pool, Seat};
-use sd_spares::Spares;
+use sd_shard::Spares;
 use std::sync::Wait;
 
 // Swaps shard i for the next spare table, and keeps the table that it gives.

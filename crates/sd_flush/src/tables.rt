@@ -3,7 +3,7 @@ ghost use Rattle.sd_epoch.specs.Limits.{limits_of, AreLimits};
 
 use sd_epoch::Limits;
 use sd_record::RecordScratch;
-use sd_spares::Spares;
+use sd_shard::Spares;
 use std::alloc::{AllocError, Global};
 
 /// The tables that a flusher swaps the shards for, and room for a record of those that they give.

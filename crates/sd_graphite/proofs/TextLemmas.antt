@@ -12,8 +12,8 @@ use Rattle.sd_model_record.specs.Record.{Row, CounterRow, TimerRow, GaugeRow, Se
 use Rattle.sd_model_record.specs.Backends.{dotted, path_prefix, suffix, graphite_line, row_lines, own_counter, tail_lines, graphite_text}
 use Rattle.sd_graphite.specs.declared.path.Path.{Path}
 use Rattle.sd_graphite.specs.Texts.{path_text, timer_prefix, BeginsWith, rate_line, count_line, sent_line, gauge_line, set_line, row_texts, row_text, own_text, rows_line, tail_text}
-use Rattle.sd_text.specs.Rows.{rows_text}
-use Rattle.sd_text.proofs.RowLemmas.{concat-sent, flat_map-same}
+use Rattle.sd_record.specs.RowTexts.{rows_text}
+use Rattle.sd_record.proofs.RowLemmas.{concat-sent, flat_map-same}
 use Rattle.sd_model_record.proofs.Short.{rows_prefix, figure_line}
 
 -- the text of a path by its parts

@@ -1,8 +1,7 @@
 use crate::record::write_record;
 use sd_outside::{Sink, WriteFault};
 use sd_plan::Names;
-use sd_record::Record;
-use sd_text::RecordText;
+use sd_record::{Record, RecordText};
 
 /// Graphite's text, under these names.
 #[derive(Clone, Copy)]

@@ -8,7 +8,7 @@ use crate::path::Path;
 use crate::second::Second;
 use sd_decimal::{Line, Sum};
 use sd_plan::Names;
-use sd_text::{push_number, push_text};
+use sd_record::{push_number, push_text};
 
 /// Appends a part of a path and the point behind it, or nothing where it is empty.
 fn push_dotted(part: &[u8], line: &mut Line)

@@ -8,8 +8,7 @@ use crate::second::Second;
 use crate::tail::write_tail;
 use sd_outside::{Sink, WriteFault};
 use sd_plan::Names;
-use sd_record::Record;
-use sd_text::write_rows;
+use sd_record::{Record, write_rows};
 
 /// Writes Graphite's text of a record under these names: the lines of each row, of a timer those that are sent, the
 /// server's own counters, and the number of rows. No memory is taken.

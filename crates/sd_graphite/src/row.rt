@@ -10,8 +10,7 @@ use crate::second::Second;
 use sd_decimal::{Line, Micro, Sum};
 use sd_key::Key;
 use sd_plan::{Calculated, Names};
-use sd_record::{FigureParts, Row, whole_number};
-use sd_text::RowText;
+use sd_record::{FigureParts, Row, RowText, whole_number};
 
 /// How Graphite gets the rows of a record under these names, at this Unix second, where these classes of timers' lines are
 /// chosen.

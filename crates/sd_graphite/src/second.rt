@@ -2,7 +2,7 @@ ghost use Rattle.std.specs.Prelude.{◌≡◌, ◌≤◌, ◌∷◌, ◌++◌, [
 ghost use Rattle.arrayvec.specs.ArrayVec.{array_vec_len};
 
 use sd_decimal::Line;
-use sd_text::{push_text, push_whole};
+use sd_record::{push_text, push_whole};
 use std::marker::Model;
 
 /// The Unix second of a text, with what stands behind the number in each of its lines, so that its digits are made once.

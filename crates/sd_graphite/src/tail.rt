@@ -14,8 +14,7 @@ use sd_decimal::{Line, per_second};
 use sd_key::Key;
 use sd_outside::{Sink, WriteFault};
 use sd_plan::Names;
-use sd_record::{Record, Row, whole_number};
-use sd_text::{push_text, write_line, write_row};
+use sd_record::{Record, Row, push_text, whole_number, write_line, write_row};
 
 /// The key of one of the server's own counters.
 fn own_key(name: &[u8], names: &Names) -> Key

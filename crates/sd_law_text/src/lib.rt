@@ -1,7 +1,7 @@
 //! Laws of text: which pieces are good and which are bad, over the whole piece, and how lines were read before values had
 //! exponents. `specs/` has what only these laws and the crates that read names and lines speak of; the functions have no code.
 //!
-//! `sd_key`, `sd_line` and `sd_tcp` cite its definitions, and `sd_filing` a lemma.
+//! `sd_key`, `sd_line` and `sd_tcp` cite its definitions, and `sd_batch` a lemma.
 #![tactic(auto)]
 
 mod grammar;

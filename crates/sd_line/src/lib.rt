@@ -1,6 +1,6 @@
 //! Datagrams and lines: the pieces of a datagram, and the sample of each.
 //!
-//! `sd_filing` goes through a datagram with `Lines`, for a replay and a server alike, and `sd_proxy` with `Parts`. A bad piece
+//! `sd_batch` goes through a datagram with `Lines`, for a replay and a server alike, and `sd_proxy` with `Parts`. A bad piece
 //! has a cause and leaves the others as they are. It reads bytes that the caller lends, takes no memory, and knows no shards.
 #![tactic(auto)]
 

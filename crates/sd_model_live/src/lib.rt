@@ -1,7 +1,7 @@
 //! The definitions of a proxy's health checks: the history of the sets of nodes that are up, what looks at it answer, and what a
 //! checker does. The functions have no code, and each states a law of the definitions.
 //!
-//! `sd_live` cites them for looks, `sd_check` for checks, and `sd_proxy` and `sd_relay` for the theorem of a proxy; the
+//! `sd_live` cites them for looks, `sd_proxy_desk` for checks, and `sd_proxy` and `sd_relay` for the theorem of a proxy; the
 //! definitions of a call stand on them.
 #![tactic(auto)]
 

@@ -4,8 +4,8 @@ ghost use Rattle.sd_opening.specs.Words.{form_view};
 ghost use Rattle.std.specs.Cmp.Lexicographic.{pointwise};
 
 use arrayvec::ArrayVec;
-use sd_drill::MOST_PACKETS;
 use sd_outside::Name;
+use sd_script::MOST_PACKETS;
 
 /// What the words ask for.
 #[derive(Debug, Drop)]

@@ -1,6 +1,6 @@
 //! The outside: the traits of what the program reads, writes and opens.
 //!
-//! All who touch an object outside are generic over these traits, from `sd_repeater` and `sd_text` up to `sd_top`. `statsd`, `sd_net`,
+//! All who touch an object outside are generic over these traits, from `sd_repeater` and `sd_record` up to `sd_top`. `statsd`, `sd_net`,
 //! `sd_doors` and `sd_peers` have the real objects, and the programs of cases use those in memory of `sd_memory`. A call that fails raises the
 //! object's count of faults, up to 2^64 - 1. No file, socket or clock of the system is known here.
 #![tactic(auto)]

@@ -12,7 +12,7 @@ use Rattle.sd_shard.specs.declared.shard.Deleted.{Deleted}
 use Rattle.sd_shard.specs.Shard.{IsDeletion, IsDump, state_of}
 use Rattle.sd_shard.specs.Keys.{KeyList}
 use Rattle.sd_shard.specs.Dump.{DumpList, rows_of}
-use Rattle.sd_spares.specs.Tables.{IsWithin}
+use Rattle.sd_shard.specs.Tables.{IsWithin}
 use Rattle.sd_batch.specs.Batch.{Waiting}
 use Rattle.sd_batch.specs.Runs.{submitted}
 use Rattle.sd_pool.specs.Setup.{Setup, OnlyOf, who_of}

@@ -10,7 +10,7 @@ ghost use Rattle.sd_shard.specs.Policy.{policy_of};
 ghost use Rattle.sd_shard.specs.Shard.{numbers_in, placed_of, state_of};
 ghost use Rattle.sd_pool.specs.Setup.{who_of};
 ghost use Rattle.sd_pool.specs.Behind.{setup_of, Stands, Steps as IsStep};
-ghost use Rattle.sd_spares.specs.Tables.{IsSpare};
+ghost use Rattle.sd_shard.specs.Tables.{IsSpare};
 
 use crate::noted::Noted;
 use crate::setup::Setup;
@@ -18,8 +18,7 @@ use sd_batch::{Counts, Run, take_run};
 use sd_epoch::{Limits, Table, Who};
 use sd_key::{Kind, Pattern};
 use sd_line::Sample;
-use sd_shard::{Deleted, Dump, Keys, Placed, Policy, Shard, ShardBook};
-use sd_spares::swap_shard;
+use sd_shard::{Deleted, Dump, Keys, Placed, Policy, Shard, ShardBook, swap_shard};
 use sd_turn::Stepped;
 use std::alloc::{AllocError, Global};
 use std::marker::Model;

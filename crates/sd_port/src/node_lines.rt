@@ -5,7 +5,7 @@ ghost use Rattle.sd_model_live.specs.Port.{node_health_lines};
 ghost use Rattle.sd_plan.specs.Entries.{node_view};
 
 use sd_admin::end_line;
-use sd_config_text::{LineText, ReplyLine, push_text};
+use sd_config::{LineText, ReplyLine, push_text};
 use sd_decimal::{Line, write_whole};
 use sd_plan::Node;
 

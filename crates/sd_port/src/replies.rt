@@ -10,13 +10,11 @@ ghost use Rattle.sd_port.specs.Commands.{answer_view};
 
 use crate::command::PortCommand;
 use crate::node_lines::NodesReply;
-use sd_admin::{AdminFault, Reply};
-use sd_config::Settings;
-use sd_config_text::write_lines;
+use sd_admin::{AdminFault, Reply, push_total};
+use sd_config::{Settings, write_lines};
 use sd_decimal::Line;
 use sd_outside::{Failed, Sink, write_all};
 use sd_proxy_desk::ProxyFacts;
-use sd_totals::push_total;
 
 /// The reply to `totals`.
 fn totals_reply(facts: &ProxyFacts) -> Line

@@ -28,10 +28,10 @@ pub use looking::proxy_part;
 pub use proxied::Proxied;
 pub use proxying::proxy;
 pub use routing::route;
-pub use sd_check::{CheckEnd, Checked, check, says_up};
 pub use sd_live::{UpCell, UpPass, UpPasses};
 pub use sd_proxy_desk::{
-    ProxyDesk, ProxyFacts, ProxyHub, ProxyPass, ProxySeat, ProxyTotals, Route,
+    CheckEnd, Checked, ProxyDesk, ProxyFacts, ProxyHub, ProxyPass, ProxySeat, ProxyTotals, Route,
+    check, says_up,
 };
 pub use stream_room::StreamRoom;
 pub use waiting::Waiting;

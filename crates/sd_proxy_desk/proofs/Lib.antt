@@ -1,1 +1,4 @@
 pub mod HistoryLemmas
+pub mod Sets
+pub mod Asking
+pub mod Run

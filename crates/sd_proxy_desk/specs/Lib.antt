@@ -5,3 +5,5 @@ pub mod Behind
 pub mod BehindInside
 pub mod Shared
 pub mod Left
+pub mod Questions
+pub mod Checking

@@ -10,7 +10,7 @@ use Rattle.sd_model_serve.specs.Sessions.{Visit}
 use Rattle.sd_model_stream.specs.Streams.{CountsReads, StreamLine, stream_lines, Stream, any_reached_limit, bytes_in, stream_is_reached_limit, lines_in}
 use Rattle.sd_receive.specs.Streamed.{FilesLines}
 use Rattle.sd_desk.specs.Tally.{tally_of}
-use Rattle.sd_door.specs.DoorKeeper.{Visited}
+use Rattle.sd_shared.specs.DoorKeeper.{Visited}
 use Rattle.sd_pool.specs.declared.pool.Pool.{Pool}
 use Rattle.sd_pool.specs.Pool.{own_at, shards_of}
 use Rattle.sd_receive.specs.LineReading.{HasVisited, IsNew, WorksOn}

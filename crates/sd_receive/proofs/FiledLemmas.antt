@@ -13,9 +13,9 @@ use Rattle.sd_pool.specs.Adding.{Adds}
 use Rattle.sd_receive.specs.Received.{HasFiled, FilesDatagrams}
 use Rattle.sd_model_serve.proofs.ActsLemmas.{asks-append}
 use Rattle.sd_pool.proofs.ActsLemmas.{Adds-none, Adds-next}
-use Rattle.sd_filing.specs.declared.filing.Filed.{Filed}
-use Rattle.sd_filing.specs.Filing.{FilesDatagram}
-use Rattle.sd_filing.proofs.ReportedLemmas.{ArePlaced-append, events_of-append, summed_in-append, summed_in-none}
+use Rattle.sd_batch.specs.declared.filing.Filed.{Filed}
+use Rattle.sd_batch.specs.Filing.{FilesDatagram}
+use Rattle.sd_batch.proofs.ReportedLemmas.{ArePlaced-append, events_of-append, summed_in-append, summed_in-none}
 use Rattle.sd_model_shard.specs.Shard.{last_number}
 
 module _ {shards : ℕ} where

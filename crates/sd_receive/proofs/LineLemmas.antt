@@ -17,9 +17,9 @@ use Rattle.sd_model_stream.specs.Streams.{StreamLine, Line, Long, samples_of_lin
 use Rattle.sd_receive.specs.Streamed.{FilesLines}
 use Rattle.sd_tcp.specs.Cutting.{Cutting, CutsOn}
 use Rattle.sd_tcp.proofs.CutLemmas.{CutsOn-none, CutsOn-next}
-use Rattle.sd_filing.specs.declared.filing.Filed.{Filed}
-use Rattle.sd_filing.specs.Filing.{ReadsDatagram, SubmitsWaiting}
-use Rattle.sd_filing.proofs.ReportedLemmas.{summed_in-none}
+use Rattle.sd_batch.specs.declared.filing.Filed.{Filed}
+use Rattle.sd_batch.specs.Filing.{ReadsDatagram, SubmitsWaiting}
+use Rattle.sd_batch.proofs.ReportedLemmas.{summed_in-none}
 use Rattle.sd_receive.specs.Streaming.{ReadsBytes, ReadsLines, TakesBytes}
 use Rattle.sd_receive.proofs.FiledLemmas.{HasFiled-none, HasFiled-next}
 use Rattle.sd_model_shard.specs.Shard.{last_number}

@@ -12,10 +12,10 @@ use Rattle.sd_model_stream.specs.Streams.{CountsReads, stream_lines, IsStreamOf,
 use Rattle.sd_receive.specs.Streamed.{FilesLines, ServesStreams}
 use Rattle.sd_desk.specs.Tally.{tally_of}
 use Rattle.sd_outside.specs.declared.door.DoorEnd.TheVariants.{Worn}
-use Rattle.sd_filing.specs.Filing.{IsOpenFor}
+use Rattle.sd_batch.specs.Filing.{IsOpenFor}
 use Rattle.sd_pool.specs.declared.pool.Pool.{Pool}
 use Rattle.sd_pool.specs.Pool.{IsSeatOf, own_at, shards_of, who_is}
-use Rattle.sd_door.specs.DoorKeeper.{EndsAfter}
+use Rattle.sd_shared.specs.DoorKeeper.{EndsAfter}
 use Rattle.sd_receive.specs.declared.line_visitor.LineVisitor.{LineVisitor}
 use Rattle.sd_receive.specs.declared.line_reading.Lined.{Lined}
 use Rattle.sd_desk.specs.Sums.{Amounts}

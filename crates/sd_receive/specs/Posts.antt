@@ -4,7 +4,7 @@ use Rattle.sd_model_outside.specs.Outside.{Object}
 use Rattle.sd_outside.specs.Turns.{most_datagram}
 use Rattle.sd_outside.specs.declared.datagrams.Ended.{Ended}
 use Rattle.sd_outside.specs.declared.datagrams.Ended.TheVariants.{End}
-use Rattle.sd_filing.specs.Filing.{IsOpenFor}
+use Rattle.sd_batch.specs.Filing.{IsOpenFor}
 use Rattle.sd_pool.specs.declared.pool.Pool.{Pool}
 use Rattle.sd_pool.specs.Pool.{IsSeatOf, own_at, shards_of, who_is}
 use Rattle.sd_shared_desk.specs.declared.shared_desk.SharedDesk.{SharedDesk}

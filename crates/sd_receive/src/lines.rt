@@ -1,7 +1,7 @@
 //! The lines of a stream. Those that one read ends are filed together, as the lines of a datagram are.
 ghost use Rattle.std.specs.Prelude.{◌≡◌, ◌<◌, ◌≤◌, false, [], ◌∷◌, length, take};
 ghost use Rattle.sd_desk.specs.Tally.{tally_of};
-ghost use Rattle.sd_filing.specs.Filing.{HasRoomFor, IsOpenFor};
+ghost use Rattle.sd_batch.specs.Filing.{HasRoomFor, IsOpenFor};
 ghost use Rattle.sd_pool.specs.Pool.{IsSeatOf, own_at, shards_of, who_is};
 ghost use Rattle.sd_tcp.specs.Cut.{IsShort, cut_view};
 ghost use Rattle.sd_receive.specs.Received.{HasFiled};
@@ -11,9 +11,8 @@ use crate::account::Account;
 use crate::submitting::Submitting;
 use crate::telling::{tell_bad, tell_long};
 use log::Log;
-use sd_batch::Batch;
+use sd_batch::{Batch, read_datagram, submit_waiting};
 use sd_desk::Tally;
-use sd_filing::{read_datagram, submit_waiting};
 use sd_outside::NoGate;
 use sd_pool::Seat;
 use sd_tcp::{Cut, Cutter};

@@ -1,7 +1,7 @@
 ghost use Rattle.std.specs.Prelude.{◌≡◌, ◌<◌, ◌≤◌, ◌^◌, length, map};
 ghost use Rattle.sd_outside.specs.Turns.{most_datagram};
 ghost use Rattle.sd_model_record.specs.Desk.{counted as counted_up};
-ghost use Rattle.sd_filing.specs.Filing.{IsOpenFor};
+ghost use Rattle.sd_batch.specs.Filing.{IsOpenFor};
 ghost use Rattle.sd_pool.specs.Pool.{IsSeatOf, own_at, shards_of, who_is};
 ghost use Rattle.sd_shared_desk.specs.Shared.{IsSeatOf as IsDeskSeatOf, number_of_seat, part_of};
 ghost use Rattle.sd_receive.specs.Receiving.{Receives};

@@ -1,6 +1,6 @@
 ghost use Rattle.std.specs.Prelude.{◌≡◌, ◌<◌, false, length, IfErr, IfOk, OnErr};
 ghost use Rattle.sd_desk.specs.Tally.{tally_of};
-ghost use Rattle.sd_filing.specs.Filing.{IsOpenFor};
+ghost use Rattle.sd_batch.specs.Filing.{IsOpenFor};
 ghost use Rattle.sd_pool.specs.Pool.{IsSeatOf, own_at, shards_of, who_is};
 ghost use Rattle.sd_shared_desk.specs.Shared.{IsSeatOf as IsDeskSeatOf, number_of_seat, part_of};
 ghost use Rattle.sd_receive.specs.Streaming.{CannotRead, Streams, TakesRead};

@@ -1,7 +1,6 @@
 use crate::telling::tell_dropped;
 use log::Log;
-use sd_batch::{Batch, Counts};
-use sd_filing::Submit;
+use sd_batch::{Batch, Counts, Submit};
 use sd_outside::Gate;
 use sd_pool::{Pool, Seat};
 use std::sync::Wait;

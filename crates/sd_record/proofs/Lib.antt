@@ -3,3 +3,5 @@ pub mod FillLemmas
 pub mod OrderLemmas
 pub mod RecordLemmas
 pub mod TimerLemmas
+pub mod RowLemmas
+pub mod WriteSteps

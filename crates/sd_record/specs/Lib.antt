@@ -6,3 +6,4 @@ pub mod Room
 pub mod Row
 pub mod Rows
 pub mod ScratchInside
+pub mod RowTexts

@@ -9,7 +9,7 @@ use Rattle.sd_live.specs.Live.{IsCheckerOf, nodes_of, seen as history_in}
 use Rattle.sd_proxy_desk.specs.Shared.{IsSeatOf, number_of_seat}
 use Rattle.sd_proxy_desk.specs.declared.desk.ProxyDesk.{ProxyDesk}
 use Rattle.sd_proxy_desk.specs.declared.hub.ProxyPass.{ProxyPass}
-use Rattle.sd_check.specs.Checking.{Checks, check_seen}
+use Rattle.sd_proxy_desk.specs.Checking.{Checks, check_seen}
 use Rattle.sd_relay.specs.declared.checking.Checking.{Checking}
 
 -- The pass is the checker's of a cell that is opened for so many nodes, in which nothing was published yet, and the seat the desk's.

@@ -5,7 +5,7 @@ use Rattle.sd_model_proxy.specs.Relays.{Relay, relay_totals}
 use Rattle.sd_model_live.specs.Proxy.{Check, ProxyObjects, ProxyTheorem, answers_of}
 use Rattle.sd_outside.specs.declared.datagrams.Ended.{Ended}
 use Rattle.sd_outside.specs.declared.datagrams.Ended.TheVariants.{End}
-use Rattle.sd_check.specs.Checking as checking
+use Rattle.sd_proxy_desk.specs.Checking as checking
 use Rattle.sd_proxy.specs.Views.{end_view}
 use Rattle.sd_proxy.specs.declared.proxied.Proxied.{Proxied}
 use Rattle.sd_relay.specs.Sums.{sums_view}

@@ -1,7 +1,7 @@
 ghost use Rattle.std.specs.Prelude.{◌≡◌, All, IfSome, length};
 ghost use Rattle.sd_live.specs.Live.{IsCheckerOf, IsPassOf};
 ghost use Rattle.sd_proxy_desk.specs.Shared.{IsSeatOf, number_of_seat};
-ghost use Rattle.sd_check.specs.Checking.{Checks, check_seen};
+ghost use Rattle.sd_proxy_desk.specs.Checking.{Checks, check_seen};
 ghost use Rattle.sd_relay.specs.Checking.{IsReadyToCheck};
 ghost use Rattle.sd_relay.specs.LinePost.{HasReadIfThere, IsLineReady};
 ghost use Rattle.sd_relay.specs.Objects.{IsDoorBefore, SameLists, StayParts};

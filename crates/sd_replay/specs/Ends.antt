@@ -1,7 +1,7 @@
 -- How a replay of the code ends, as the definitions have it.
 use Rattle.sd_model_replay.specs.Script.{BadWord, BadLength, CutShort}
 use Rattle.sd_model_replay.specs.AccountingTheorem.{End, Complete, Faulted, ReadFailed, WriteFailed, LimitReached}
-use Rattle.sd_totals.specs.Totals.{totals_view}
+use Rattle.sd_admin.specs.Totals.{totals_view}
 use Rattle.sd_script.specs.declared.fault.ScriptFault.{ScriptFault}
 use Rattle.sd_script.specs.declared.fault.ScriptFault.TheVariants.{Word, Length, Truncated}
 use Rattle.sd_replay.specs.declared.run.ReplayEnd.{ReplayEnd}

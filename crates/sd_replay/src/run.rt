@@ -13,13 +13,14 @@ ghost use Rattle.sd_run.specs.Seen.{seen_of};
 ghost use Rattle.sd_replay.specs.Start.{start_in};
 ghost use Rattle.sd_replay.specs.Sent.{IsPlayed};
 ghost use Rattle.sd_replay.specs.Totals.{totals_of_group};
-ghost use Rattle.sd_totals.specs.Totals.{totals_view};
+ghost use Rattle.sd_admin.specs.Totals.{totals_view};
 ghost use Rattle.sd_model_record.specs.Backends.{Graphite, Console};
 ghost use Rattle.sd_model_text.specs.Lines.{pieces, bad_of};
 
 use crate::fault::fault_at;
 use crate::flush::flush;
 use crate::room::ReplayRoom;
+use sd_admin::{Totals, write_totals};
 use sd_command::execute;
 use sd_config::{NamesOf, Settings};
 use sd_desk::{Desk, Tally};
@@ -30,7 +31,6 @@ use sd_repeater::repeat;
 use sd_run::targets_of;
 use sd_script::{Item, ScriptFault};
 use sd_shards::Shards;
-use sd_totals::{Totals, write_totals};
 
 /// How many records a replay executes at most.
 const MOST_TURNS: u64 = 1 << 62;

@@ -4,3 +4,5 @@ pub mod AheadLemmas
 pub mod PrefixLemmas
 pub mod ReaderLemmas
 pub mod NextLemmas
+pub mod NumberLemmas
+pub mod TextLemmas

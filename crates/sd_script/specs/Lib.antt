@@ -7,3 +7,5 @@ pub mod Reader
 pub mod Reading
 pub mod Reads
 pub mod Next
+pub mod Drill
+pub mod Texts

@@ -15,7 +15,7 @@ use Rattle.sd_model_run.proofs.CountedLemmas.{sum_by-range}
 use Rattle.sd_serve.proofs.CountedLemmas.{exact_share, lines_read_by}
 use Rattle.sd_outside.specs.declared.door.DoorEnd.{DoorEnd}
 use Rattle.sd_outside.specs.declared.door.DoorEnd.TheVariants as closed
-use Rattle.sd_door.specs.DoorKeeper.{EndsAfter}
+use Rattle.sd_shared.specs.DoorKeeper.{EndsAfter}
 use Rattle.sd_pool.specs.Pool.{IsSeatOf, own_at, shards_of, who_is}
 use Rattle.sd_pool.specs.declared.pool.Pool.{Pool}
 use Rattle.sd_pool.specs.declared.seat.Seat.{Seat}

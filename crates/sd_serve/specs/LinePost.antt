@@ -2,7 +2,7 @@
 use Rattle.std.specs.Prelude.{◌≡◌, ℕ, ◌<◌, Bool, true, false, List, map, vec_len, Option, Some, None, option_to_list, ⊤}
 use Rattle.sd_model_outside.specs.Outside.{Object}
 use Rattle.sd_outside.specs.declared.door.DoorEnd.{DoorEnd}
-use Rattle.sd_filing.specs.Filing.{IsOpenFor}
+use Rattle.sd_batch.specs.Filing.{IsOpenFor}
 use Rattle.sd_pool.specs.declared.pool.Pool.{Pool}
 use Rattle.sd_pool.specs.declared.seat.Seat.{Seat}
 use Rattle.sd_pool.specs.Pool.{IsSeatOf, own_at, shards_of, who_is}

@@ -1,7 +1,7 @@
 -- What stands in posts.
 use Rattle.std.specs.Prelude.{◌≡◌, ℕ, ◌≤◌, List, [], length, vec_capacity}
 use Rattle.sd_outside.specs.Turns.{most_datagram}
-use Rattle.sd_filing.specs.Filing.{IsOpenFor}
+use Rattle.sd_batch.specs.Filing.{IsOpenFor}
 use Rattle.sd_pool.specs.declared.seat.Seat.{Seat}
 use Rattle.sd_receive.specs.declared.post.Post.{Post}
 use Rattle.sd_shared_desk.specs.Shared.{OwnSeat as DeskSeat}

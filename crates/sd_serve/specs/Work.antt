@@ -16,7 +16,7 @@ use Rattle.sd_flush.specs.Leads.{AreReadyLeads, GivesOutlets, StopsLeads}
 use Rattle.sd_flush.specs.declared.flushed.Flushed.{Flushed}
 use Rattle.sd_flush.specs.declared.post.FlusherPost.{FlusherPost}
 use Rattle.sd_flush.specs.Tables.{IsFlusherPost}
-use Rattle.sd_door.specs.DoorKeeper.{EndsDoorKeeper}
+use Rattle.sd_shared.specs.DoorKeeper.{EndsDoorKeeper}
 use Rattle.sd_session.specs.Doors.{ServesSessions}
 use Rattle.sd_serve.specs.LinePost.{AreLinesReadBy, IsLineReady}
 use Rattle.sd_serve.specs.Services.{IsAdminPost, IsIdleDoor}

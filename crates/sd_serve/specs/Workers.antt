@@ -8,7 +8,7 @@ use Rattle.sd_shared.specs.declared.shared.Shared.{Shared}
 use Rattle.sd_shared_desk.specs.Shared.{number_of_seat, part_of}
 use Rattle.sd_receive.specs.Posts.{HasRun, IsReady}
 use Rattle.sd_receive.specs.declared.post.Post.{Post}
-use Rattle.sd_door.specs.DoorKeeper.{EndsDoorKeeper}
+use Rattle.sd_shared.specs.DoorKeeper.{EndsDoorKeeper}
 use Rattle.sd_session.specs.Doors.{ServesSessions}
 use Rattle.sd_serve.specs.LinePost.{AreLinesReadBy, IsLineReady}
 use Rattle.sd_flush.specs.Delivery.{uses}

@@ -19,7 +19,7 @@ use Rattle.sd_model_record.specs.Replies.{AdminReply, Gone, Finish, reply_text, 
 use Rattle.sd_model_serve.specs.Sessions.{IsCut}
 use Rattle.sd_session.specs.Executed.{Broadcasts, AreReplied}
 use Rattle.sd_pool.proofs.ActsLemmas.{Adds-none, Adds-next}
-use Rattle.sd_totals.proofs.TakeLemmas.{take-more}
+use Rattle.sd_admin.proofs.TakeLemmas.{take-more}
 use Rattle.sd_command.proofs.CommandLemmas.{none_found, text-more}
 use Rattle.sd_session.specs.Asking.{Executes, DeletesNames}
 use Rattle.sd_model_serve.proofs.Short.{all_replies}

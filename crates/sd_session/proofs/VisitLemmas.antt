@@ -8,7 +8,7 @@ use Rattle.sd_model_serve.specs.Sessions.{Visit, IsVisitOf, asked_by, called_in,
 use Rattle.sd_session.specs.Executed.{Broadcasts}
 use Rattle.sd_pool.specs.Pool.{own_at, shards_of}
 use Rattle.sd_pool.specs.declared.pool.Pool.{Pool}
-use Rattle.sd_door.specs.DoorKeeper.{Visited}
+use Rattle.sd_shared.specs.DoorKeeper.{Visited}
 use Rattle.sd_session.specs.Visiting.{HasVisited, WorksOn}
 use Rattle.sd_session.specs.declared.visiting.AdminVisitor.{AdminVisitor}
 use Rattle.sd_session.proofs.ExecutionLemmas.{Broadcasts-none, Broadcasts-next}

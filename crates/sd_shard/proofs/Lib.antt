@@ -3,3 +3,4 @@ mod CommandLemmas
 mod DumpLemmas
 mod RoomLemmas
 mod SwapLemmas
+pub mod TableLemmas

@@ -4,7 +4,7 @@ use Rattle.std.specs.Vec.{with_items}
 use Rattle.std.proofs.lemmas.List.{length-map, with_items_is}
 use Rattle.sd_model_shard.specs.Shard.{State}
 use Rattle.sd_law_shards.specs.Shards.{AtHome}
-use Rattle.sd_filing.specs.Filing.{IsOpenFor}
+use Rattle.sd_batch.specs.Filing.{IsOpenFor}
 use Rattle.sd_shard.specs.Shard.{Standing, state_of}
 use Rattle.sd_shards.specs.Inside.{AreShards, group_of}
 use Rattle.sd_shards.specs.Shards.{AreAlike, Group}

@@ -2,7 +2,7 @@
 use Rattle.std.specs.Prelude.{◌≡◌, ◌+◌, ◌≤◌, length, map, vec_len}
 use Rattle.sd_law_shards.specs.Shards.{AtHome}
 use Rattle.sd_epoch.specs.Table.{table_of}
-use Rattle.sd_filing.specs.Filing.{IsOpenFor}
+use Rattle.sd_batch.specs.Filing.{IsOpenFor}
 use Rattle.sd_record.specs.Rows.{AreDisjoint}
 use Rattle.sd_shard.specs.Shard.{state_of}
 use Rattle.sd_shards.specs.Shards.{Group}

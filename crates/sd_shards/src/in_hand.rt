@@ -1,7 +1,6 @@
 //! Shards that one caller has in hand.
-use sd_batch::{Batch, Counts, take_run};
+use sd_batch::{Batch, Counts, Submit, take_run};
 use sd_epoch::Who;
-use sd_filing::Submit;
 use sd_shard::Shard;
 
 /// A caller who has shards in hand.

@@ -11,5 +11,5 @@ mod open;
 mod shards;
 mod swap;
 
-pub use sd_filing::Filed;
+pub use sd_batch::Filed;
 pub use shards::Shards;

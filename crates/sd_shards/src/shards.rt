@@ -23,12 +23,10 @@ use crate::commands::{delete_all, dump_all};
 use crate::in_hand::InHand;
 use crate::open::open_shards;
 use crate::swap::swap_all;
-use sd_batch::Batch;
+use sd_batch::{Batch, Filed, file_datagram};
 use sd_epoch::{Limits, Table, Who};
-use sd_filing::{Filed, file_datagram};
 use sd_key::{Kind, Pattern};
-use sd_shard::{Books, Dump, Keys, Policy, Shard};
-use sd_spares::Spares;
+use sd_shard::{Books, Dump, Keys, Policy, Shard, Spares};
 use std::alloc::{AllocError, Global};
 use std::marker::Model;
 

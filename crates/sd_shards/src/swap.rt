@@ -4,8 +4,7 @@ ghost use Rattle.sd_epoch.specs.Table.{table_of as table_seen};
 ghost use Rattle.sd_shard.specs.Shard.{state_of};
 ghost use Rattle.sd_shards.specs.Standings.{state_in, limits_in, policy_in, GoBy, GoTogether};
 
-use sd_shard::Shard;
-use sd_spares::{Spares, swap_shard};
+use sd_shard::{Shard, Spares, swap_shard};
 
 /// Swaps a shard for the next spare table, and keeps the table that it gives.
 fn swap_one(shard: &mut Shard, spares: &mut Spares)

@@ -17,7 +17,7 @@ use Rattle.sd_replay.specs.Ends.{end_of}
 use Rattle.sd_script.specs.declared.fault.ScriptFault.TheVariants.{Word, Length, Truncated}
 use Rattle.sd_replay.specs.declared.run.ReplayEnd.{ReplayEnd}
 use Rattle.sd_replay.specs.declared.run.ReplayEnd.TheVariants as code
-use Rattle.sd_totals.specs.declared.totals.Totals.{Totals as CodeTotals}
+use Rattle.sd_admin.specs.declared.totals.Totals.{Totals as CodeTotals}
 use Rattle.sd_top.specs.Replaying.{IsDrill}
 use Rattle.sd_model_call.proofs.Short.{most_packets}
 

@@ -7,7 +7,7 @@ use Rattle.sd_model_call.specs.Opening.{IsAccepted, World, settled}
 use Rattle.sd_model_call.specs.Call.{Answer, StopsAmong, WritesTotals}
 use Rattle.sd_model_call.specs.Proxy.{ProxyAccounts, proxy_flaw, proxy_openings, relay_text}
 use Rattle.sd_model_call.specs.Server.{ends_answer}
-use Rattle.sd_check.specs.Checking as checking
+use Rattle.sd_proxy_desk.specs.Checking as checking
 use Rattle.sd_outside.specs.declared.datagrams.Ended.{Ended}
 use Rattle.sd_outside.specs.declared.datagrams.Ended.TheVariants.{End, Failed, Stopped, Worn}
 use Rattle.sd_proxy.specs.Views.{end_view}

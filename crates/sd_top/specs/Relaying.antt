@@ -6,8 +6,8 @@ use Rattle.sd_model_call.specs.Call.{Answer}
 use Rattle.sd_model_call.specs.Opening.{World}
 use Rattle.sd_model_call.specs.Proxy.{line_readers, proxy_objects, proxy_openings}
 use Rattle.sd_model_call.specs.Server.{ends_answer, begun_with}
-use Rattle.sd_check.specs.Checking as checking
-use Rattle.sd_check.specs.declared.checked.Checked.{Checked}
+use Rattle.sd_proxy_desk.specs.Checking as checking
+use Rattle.sd_proxy_desk.specs.declared.checked.Checked.{Checked}
 use Rattle.sd_outside.specs.declared.datagrams.Ended.{Ended}
 use Rattle.sd_relay.specs.Relaying as relaying
 use Rattle.sd_relay.specs.Sums.{sums_view}

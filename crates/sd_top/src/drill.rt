@@ -1,15 +1,15 @@
 ghost use Rattle.std.specs.Prelude.{◌<◌, ◌≤◌};
-ghost use Rattle.sd_drill.specs.declared.drill.TheConstants.{MOST_PACKETS};
+ghost use Rattle.sd_script.specs.declared.drill.TheConstants.{MOST_PACKETS};
 ghost use Rattle.sd_opening.specs.Answers.{answer_of};
 ghost use Rattle.sd_top.specs.Replaying.{IsDrill};
 
 use crate::ends::status_of;
+use sd_admin::write_total;
 use sd_config::Settings;
-use sd_drill::Drill;
 use sd_opening::Status;
 use sd_outside::{Backs, CountSink, Sink, WriteFault};
 use sd_replay::{ReplayEnd, ReplayRoom, replay};
-use sd_totals::write_total;
+use sd_script::Drill;
 use std::alloc::Global;
 
 /// Executes the made script of so many packets by the settings of an empty file, and writes the totals and the number of

@@ -4,7 +4,7 @@ ghost use Rattle.std.specs.List.{list_any};
 ghost use Rattle.sd_model_call.specs.Call.{StopsAmong, WritesTotals};
 ghost use Rattle.sd_model_call.specs.Proxy.{ProxyAccounts, proxy_flaw, proxy_openings};
 ghost use Rattle.sd_model_call.specs.Server.{reached_limit};
-ghost use Rattle.sd_check.specs.Checking.{end_view};
+ghost use Rattle.sd_proxy_desk.specs.Checking.{end_view};
 ghost use Rattle.sd_serve.specs.Serving.{end_of};
 ghost use Rattle.sd_opening.specs.Answers.{answer_of};
 ghost use Rattle.sd_top.specs.Relaying.{HasRelayed, relay_answer, relay_lines};
@@ -12,6 +12,7 @@ ghost use Rattle.sd_opening.specs.World.{world_of};
 
 use crate::ends::{any_reached_limit, by_receivers, by_turns, cut};
 use log::{LevelFilter, Logged};
+use sd_admin::push_total;
 use sd_config::Settings;
 use sd_decimal::Line;
 use sd_opening::{
@@ -22,7 +23,6 @@ use sd_outside::{Address, Beat, Ended, Failed, Interval, Name, Sink, write_all};
 use sd_proxy::{CheckEnd, Checked};
 use sd_relay::{ProxySums, RelayParts, RelayRoom, Relayed, relay};
 use sd_run::{ObjectTypes, names_backend};
-use sd_totals::push_total;
 use std::alloc::Global;
 use std::sync::Wait;
 use std::thread::Threads;

@@ -5,19 +5,19 @@ ghost use Rattle.std.specs.List.{list_any};
 ghost use Rattle.sd_model_call.specs.Call.{WritesTotals};
 ghost use Rattle.sd_model_call.specs.Server.{reached_limit};
 ghost use Rattle.sd_model_record.specs.Totals.{totals_text as text_of};
-ghost use Rattle.sd_totals.specs.Totals.{totals_view};
+ghost use Rattle.sd_admin.specs.Totals.{totals_view};
 ghost use Rattle.sd_serve.specs.Serving.{door_end_of, end_of};
 ghost use Rattle.sd_opening.specs.Answers.{answer_of};
 ghost use Rattle.sd_top.specs.Serving.{ends_of, lines_in, skips_in, totals_in};
 
 use crate::ends::{any_reached_limit, by_receivers, by_turns, cut, took_most_turns};
+use sd_admin::{Totals, push_total, totals_text};
 use sd_decimal::Line;
 use sd_desk::Desk;
 use sd_opening::{Part, Status};
 use sd_outside::{DoorEnd, Ended, Failed, Sink, write_all};
 use sd_serve::{Ends, OutCounts, Served};
 use sd_shard::ShardBook;
-use sd_totals::{Totals, push_total, totals_text};
 
 /// The totals of shards with these numbers and of a desk, with what outlets counted, if there were any.
 fn totals_of(books: &[ShardBook], desk: &Desk, outs: &Option<OutCounts>) -> Totals

@@ -2,7 +2,7 @@ use Rattle.std.proofs.Common.{◌∙◌, ◌++◌, Some, sym, ap}
 use Rattle.std.specs.Option.{option_map}
 use Rattle.std.proofs.lemmas.Option.{slice_get-map}
 use Rattle.sd_model_record.specs.Totals.{known_before_end, total_line}
-use Rattle.sd_totals.specs.Totals.{total_seen, totals_view}
+use Rattle.sd_admin.specs.Totals.{total_seen, totals_view}
 use Rattle.sd_admin.proofs.reply_lines.total_line.Goals as goal
 
 pub returns : goal.returns

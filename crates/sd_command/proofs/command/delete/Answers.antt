@@ -9,7 +9,7 @@ use Rattle.sd_key.specs.Kind.{kind_of}
 use Rattle.sd_shards.specs.Shards.{Group, AreAlike, group_bounds, state_at}
 use Rattle.sd_admin.specs.Command.{command_view}
 use Rattle.sd_command.specs.Commanded.{IsWritten, deleted, reported_of}
-use Rattle.sd_totals.proofs.TakeLemmas.{take-more}
+use Rattle.sd_admin.proofs.TakeLemmas.{take-more}
 use Rattle.sd_command.proofs.CommandLemmas.{deleted-more, reported_at, replied-more, text-more, found_below, none_found, state_past, idle_delete, both_alike}
 use Rattle.sd_command.proofs.command.delete.Goals as goal
 use Rattle.sd_model_record.proofs.Short.{keys_reported}

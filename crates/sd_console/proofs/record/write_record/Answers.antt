@@ -1,7 +1,7 @@
 use Rattle.std.proofs.Common.{refl, sym, ◌∙◌, append-nil}
 use Rattle.std.proofs.lemmas.Result.{err_from_is_err_and, on_ok_weaker, on_err_weaker}
 use Rattle.sd_record.specs.Record.{record_view}
-use Rattle.sd_text.proofs.WriteSteps.{prefix_1, prefix_2, prefix_3, prefix_4, three_parts, next_part}
+use Rattle.sd_record.proofs.WriteSteps.{prefix_1, prefix_2, prefix_3, prefix_4, three_parts, next_part}
 use Rattle.sd_console.proofs.TextLemmas.{console_text-parts}
 use Rattle.sd_console.proofs.record.write_record.Goals as goal
 

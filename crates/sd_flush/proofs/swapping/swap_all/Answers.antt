@@ -1,6 +1,6 @@
 use Rattle.std.proofs.Common.{◌≡◌, ℕ, ◌+◌, ◌∷◌, [], ◌++◌, List, length, refl, sym, ap, subst, ◌∙◌, arith}
 use Rattle.std.proofs.lemmas.List.{length_push}
-use Rattle.sd_spares.specs.Spares.{Stock}
+use Rattle.sd_shard.specs.Spares.{Stock}
 use Rattle.sd_model_shard.specs.Shard.{Swap, Swapped}
 use Rattle.sd_epoch.specs.Table.{Listing, table_of}
 use Rattle.sd_pool.specs.Pool.{own_at, shards_of}

@@ -1,8 +1,8 @@
 use Rattle.std.proofs.Common.{◌++◌, ◌∙◌, ap, sym}
 use Rattle.std.proofs.lemmas.Result.{err_from_is_err_and, on_ok_weaker, on_err_weaker}
 use Rattle.sd_record.specs.Record.{record_view}
-use Rattle.sd_text.specs.Rows.{rows_text}
-use Rattle.sd_text.proofs.WriteSteps.{next_part, next_prefix, prefix_prefix}
+use Rattle.sd_record.specs.RowTexts.{rows_text}
+use Rattle.sd_record.proofs.WriteSteps.{next_part, next_prefix, prefix_prefix}
 use Rattle.sd_graphite.specs.Texts.{row_texts, tail_text}
 use Rattle.sd_graphite.proofs.TextLemmas.{graphite_text-parts}
 use Rattle.sd_graphite.proofs.record.write_record.Goals as goal

@@ -2,7 +2,7 @@ use Rattle.std.proofs.Common.{◌∙◌}
 use Rattle.std.proofs.lemmas.Result.{on_ok_weaker, on_err_weaker}
 use Rattle.sd_record.specs.Record.{record_view}
 use Rattle.sd_record.specs.Row.{row_view}
-use Rattle.sd_text.proofs.WriteSteps.{same_part, same_prefix}
+use Rattle.sd_record.proofs.WriteSteps.{same_part, same_prefix}
 use Rattle.sd_graphite.proofs.TextLemmas.{own_text-row, row_texts-joined}
 use Rattle.sd_graphite.proofs.tail.write_own_counter.Goals as goal
 

@@ -3,7 +3,7 @@ use Rattle.std.proofs.lemmas.Result.{err_from_is_err_and, on_ok_weaker, on_err_w
 use Rattle.sd_record.specs.Record.{record_view}
 use Rattle.sd_desk.specs.Tally.{tally_of}
 use Rattle.sd_graphite.proofs.TextLemmas.{tail_text-parts}
-use Rattle.sd_text.proofs.WriteSteps.{prefix_1, prefix_2, prefix_3, prefix_4, prefix_5, five_parts}
+use Rattle.sd_record.proofs.WriteSteps.{prefix_1, prefix_2, prefix_3, prefix_4, prefix_5, five_parts}
 use Rattle.sd_graphite.proofs.tail.write_tail.Goals as goal
 
 pub returns-in_err-write_own_counter-clause-failed : goal.returns-in_err-write_own_counter-clause-failed

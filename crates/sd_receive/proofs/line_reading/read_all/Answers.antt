@@ -4,7 +4,7 @@ use Rattle.sd_shared_desk.proofs.DeskLemmas.{called_as}
 use Rattle.sd_model_stream.specs.Streams.{CountsReads, any_reached_limit}
 use Rattle.sd_outside.specs.declared.door.DoorEnd.{DoorEnd}
 use Rattle.sd_shared_desk.specs.Shared.{part_of}
-use Rattle.sd_door.specs.DoorKeeper.{EndsAfter}
+use Rattle.sd_shared.specs.DoorKeeper.{EndsAfter}
 use Rattle.sd_receive.proofs.CalledLemmas.{reads_among}
 use Rattle.sd_receive.proofs.DoorLemmas.{counted_whole, read_by}
 use Rattle.sd_receive.proofs.line_reading.read_all.Goals as goal

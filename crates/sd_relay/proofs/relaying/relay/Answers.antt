@@ -21,7 +21,7 @@ use Rattle.sd_proxy_desk.specs.Shared.{IsSeatOf, OwnSeat, events_of, number_of_s
 use Rattle.sd_proxy_desk.specs.declared.desk.ProxyDesk.{ProxyDesk}
 use Rattle.sd_proxy_desk.specs.declared.hub.ProxyHub.{ProxyHub}
 use Rattle.sd_proxy_desk.specs.declared.hub.ProxyPass.{ProxyPass}
-use Rattle.sd_check.specs.Checking as checking
+use Rattle.sd_proxy_desk.specs.Checking as checking
 use Rattle.sd_proxy.specs.Views.{end_view}
 use Rattle.sd_relay.specs.LinePost.{IsLineFitted, line_owns, line_wires}
 use Rattle.sd_relay.specs.Owns.{IsFreshOwn, IsHubFor, number_of, pass_of, passes_in, seat_of, seats_in}

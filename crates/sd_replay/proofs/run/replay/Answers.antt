@@ -28,7 +28,7 @@ use Rattle.sd_script.specs.Reads.{ReadsItem}
 use Rattle.sd_replay.specs.Room.{Sizing, HasRoom, HoldsRows, sizing_of}
 use Rattle.sd_replay.specs.RoomInside.{sizing_in}
 use Rattle.sd_run.specs.Seen.{back_of, seen_of}
-use Rattle.sd_totals.specs.Totals.{totals_view}
+use Rattle.sd_admin.specs.Totals.{totals_view}
 use Rattle.sd_outside.specs.declared.backend.Backs.{Backs}
 use Rattle.sd_script.specs.declared.reader.Item.{Item}
 use Rattle.sd_model_replay.proofs.ReplayLemmas.{run_before, output_of-push}

@@ -2,7 +2,7 @@ use Rattle.std.proofs.Common.{◌∷◌, [], ◌++◌, map, ap, ◌∙◌}
 use Rattle.std.proofs.lemmas.List.{map-append}
 use Rattle.sd_model_shard.specs.Shard as model
 use Rattle.sd_epoch.specs.Table.{table_of}
-use Rattle.sd_spares.specs.Spares.{Stock}
+use Rattle.sd_shard.specs.Spares.{Stock}
 use Rattle.sd_shards.proofs.swap.swap_one.Goals as goal
 
 pub returns-clause-tables : goal.returns-clause-tables

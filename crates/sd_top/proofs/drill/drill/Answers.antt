@@ -4,7 +4,7 @@ use Rattle.sd_model_settings.specs.Settings as file
 use Rattle.sd_model_replay.specs.Replay.{names_backend, targets_of}
 use Rattle.sd_model_record.specs.Totals.{total_line}
 use Rattle.sd_replay.specs.Ends.{end_of}
-use Rattle.sd_totals.specs.Totals.{totals_view}
+use Rattle.sd_admin.specs.Totals.{totals_view}
 use Rattle.sd_top.proofs.DrillLemmas.{in_force, not_complete, by_failure, by_bytes, by_bytes_failed}
 use Rattle.sd_top.proofs.drill.drill.Goals as goal
 

@@ -2,7 +2,7 @@ use Rattle.std.proofs.Common.{◌∷◌, [], false, ap, sym, ◌∙◌}
 use Rattle.std.specs.Prelude.{◌||◌}
 use Rattle.std.proofs.Math.Bool.{or-false}
 use Rattle.sd_model_call.specs.Server.{reached_limit}
-use Rattle.sd_check.specs.Checking.{end_view}
+use Rattle.sd_proxy_desk.specs.Checking.{end_view}
 use Rattle.sd_top.proofs.ServerLemmas.{limit_among}
 use Rattle.sd_top.proofs.proxy.some_reached_limit.Goals as goal
 

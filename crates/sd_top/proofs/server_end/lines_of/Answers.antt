@@ -2,7 +2,7 @@ use Rattle.std.proofs.Common.{◌≡◌, [], ◌∷◌, ◌++◌, ◌∙◌, ap,
 use Rattle.std.specs.Prelude.{codes}
 use Rattle.sd_model_record.specs.Totals.{Total, total_line, totals_text}
 use Rattle.sd_model_record.proofs.TotalLemmas.{totals_text-snoc}
-use Rattle.sd_totals.specs.Totals.{totals_view}
+use Rattle.sd_admin.specs.Totals.{totals_view}
 use Rattle.sd_top.proofs.server_end.lines_of.Goals as goal
 
 pub returns-in-Some : goal.returns-in-Some

@@ -3,7 +3,7 @@ use Rattle.std.specs.Option.{option_map}
 use Rattle.std.proofs.lemmas.List.{length-map}
 use Rattle.std.proofs.lemmas.Option.{slice_get-map}
 use Rattle.sd_model_record.specs.Replies.{end_lines}
-use Rattle.sd_config_text.proofs.ConfigPlaces.{got}
+use Rattle.sd_config.proofs.ConfigPlaces.{got}
 use Rattle.sd_plan.specs.Entries.{node_view}
 use Rattle.sd_port.proofs.NodeLines.{node_at, end_at}
 use Rattle.sd_port.proofs.node_lines.NodesReplyLineText.line.Goals as goal

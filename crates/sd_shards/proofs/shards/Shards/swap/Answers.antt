@@ -7,9 +7,9 @@ use Rattle.sd_model_shard.specs.Shard.{after_swap, table_of}
 use Rattle.sd_law_shards.specs.Shards.{AtHome}
 use Rattle.sd_law_shards.proofs.HomeLemmas.{AtHome-swap}
 use Rattle.sd_epoch.specs.Table.{Listing, table_of as table_seen}
-use Rattle.sd_filing.specs.Filing.{IsOpenFor}
+use Rattle.sd_batch.specs.Filing.{IsOpenFor}
 use Rattle.sd_shard.specs.Shard.{Standing, state_of}
-use Rattle.sd_spares.specs.Spares.{Stock}
+use Rattle.sd_shard.specs.Spares.{Stock}
 use Rattle.sd_shards.specs.Shards.{Group}
 use Rattle.sd_shards.specs.Standings.{state_in, limits_in, policy_in}
 use Rattle.sd_shards.proofs.EachLemmas.{map-group, map-states}

@@ -1,2 +1,0 @@
-pub mod ConfigLengths
-pub mod ConfigPlaces

@@ -1,2 +1,0 @@
-pub mod Drill
-pub mod Texts

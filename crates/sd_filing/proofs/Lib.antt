@@ -1,4 +1,0 @@
-pub mod SumLemmas
-pub mod ReportedLemmas
-pub mod WaitingLemmas
-pub mod FilingLemmas
