@@ -1,27 +1,39 @@
-ghost use Rattle.std.specs.Prelude.{◌≡◌, ℕ, ◌+◌, ◌≤◌, ◌++◌, length, map, option_map, slice_get, IfSome, OnOk, OnErr, sum_by};
+ghost use Rattle.std.specs.Prelude.{◌≡◌, ℕ, ◌+◌, ◌*◌, ◌≤◌, ◌++◌, length, map, option_map, slice_get, IfSome, OnOk, OnErr, sum_by};
 ghost use Rattle.sd_model_outside.specs.Outside.{HasFailedBehind, given};
 ghost use Rattle.sd_model_shard.specs.Shard.{Numbers};
 ghost use Rattle.sd_model_record.specs.Desk.{Facts};
-ghost use Rattle.sd_model_record.specs.Totals.{known_before_end, total_line, totals_of, totals_text as lines_of};
+ghost use Rattle.sd_model_outside.specs.Backend.{backends};
+ghost use Rattle.sd_model_record.specs.Totals.{faults_name, known_before_end, total_line, totals_of, totals_text as lines_of};
 ghost use Rattle.sd_desk.specs.Facts.{facts_view};
 ghost use Rattle.sd_shard.specs.Shard.{numbers_in};
-ghost use Rattle.sd_admin.specs.Totals.{total_seen, totals_by, totals_view};
+ghost use Rattle.sd_outside.specs.Backends.{at, kind_of};
+ghost use Rattle.sd_admin.specs.Totals.{behind_faults, total_seen, totals_by, totals_view};
+ghost use Rattle.sd_admin.specs.declared.totals.TheConstants.{TOTALS};
 
 use crate::sums::{Sums, add_up};
 use sd_decimal::{Line, write_whole};
 use sd_desk::DeskFacts;
-use sd_outside::{Failed, Sink, WriteFault, write_all};
+use sd_outside::{BACKEND_COUNT, BACKENDS, Failed, PerBackend, Sink, WriteFault, write_all};
 use sd_shard::ShardBook;
 
+/// How many totals stand before those of the backends' faults, and behind them.
+const BEFORE_FAULTS: usize = 9;
+
+const BEHIND_FAULTS: usize = 2;
+
 /// How many totals there are.
-pub const TOTALS: usize = 13;
+pub const TOTALS: usize = BEFORE_FAULTS + BACKEND_COUNT + BEHIND_FAULTS;
 
 /// How many totals are known before the end, where backends have outlets and where they have none.
 pub fn known_totals(outlets: bool) -> usize
-    ensures few { result ≤ 13 }
+    ensures few { result ≤ TOTALS }
     ensures count { (all : (Numbers → ℕ) → ℕ) (facts : Facts) → result ≡ length (known_before_end outlets (totals_of all facts)) }
 {
-    if outlets { TOTALS - 2 } else { TOTALS }
+    if outlets {
+        BEFORE_FAULTS + BEHIND_FAULTS
+    } else {
+        TOTALS
+    }
 }
 
 /// A name, and the number that was counted under it.
@@ -51,8 +63,7 @@ pub struct Totals {
     pub held: u128,
     pub deleted: u128,
     pub rounds: u128,
-    pub graphite_faults: u128,
-    pub console_faults: u128,
+    pub faults: PerBackend<u128>,
     pub repeater_faults: u128,
     pub admin_faults: u128,
 }
@@ -79,8 +90,11 @@ impl Totals {
             held: sums.held,
             deleted: sums.deleted,
             rounds: u128::from(facts.rounds),
-            graphite_faults: u128::from(facts.graphite_faults),
-            console_faults: u128::from(facts.console_faults),
+            faults: PerBackend::from_fn(
+                |kind|
+                    ensures { result ≡ at facts.entry.now.faults (kind_of kind) }
+                { u128::from(*facts.faults.at(kind)) },
+            ),
             repeater_faults: u128::from(facts.repeater_faults),
             admin_faults: u128::from(facts.admin_faults),
         }
@@ -91,15 +105,10 @@ impl Totals {
         ensures total { option_map total_seen result ≡ slice_get (known_before_end outlets (totals_view self.now)) place }
         ensures short { IfSome result (λ t. length t.name.now ≤ 15) }
     {
-        if !outlets {
+        if !outlets || place < BEFORE_FAULTS {
             return self.at(place);
         }
-        match place {
-            0..=8 => self.at(place),
-            9 => self.at(11),
-            10 => self.at(12),
-            _ => None,
-        }
+        self.behind_faults(place - BEFORE_FAULTS)
     }
 
     /// The total at a place, counted from 0, or none behind the last.
@@ -117,10 +126,29 @@ impl Totals {
             6 => Some(Total::of(b"held", self.held)),
             7 => Some(Total::of(b"deleted", self.deleted)),
             8 => Some(Total::of(b"rounds", self.rounds)),
-            9 => Some(Total::of(b"graphite_faults", self.graphite_faults)),
-            10 => Some(Total::of(b"console_faults", self.console_faults)),
-            11 => Some(Total::of(b"repeater_faults", self.repeater_faults)),
-            12 => Some(Total::of(b"admin_faults", self.admin_faults)),
+            _ => self.behind_rounds(place - BEFORE_FAULTS),
+        }
+    }
+
+    // Those of the backends' faults and behind them.
+    fn behind_rounds(&self, place: usize) -> Option<Total>
+        ensures total { option_map total_seen result ≡ slice_get (map (λ b. (faults_name b, at (self.now).faults b)) backends ++ behind_faults self.now) place }
+        ensures short { IfSome result (λ t. length t.name.now ≤ 15) }
+    {
+        match BACKENDS.get(place) {
+            Some(&kind) => Some(Total::of(kind.faults_name(), *self.faults.at(kind))),
+            None => self.behind_faults(place - BACKEND_COUNT),
+        }
+    }
+
+    // Those behind the backends' faults.
+    fn behind_faults(&self, place: usize) -> Option<Total>
+        ensures total { option_map total_seen result ≡ slice_get (behind_faults self.now) place }
+        ensures short { IfSome result (λ t. length t.name.now ≤ 15) }
+    {
+        match place {
+            0 => Some(Total::of(b"repeater_faults", self.repeater_faults)),
+            1 => Some(Total::of(b"admin_faults", self.admin_faults)),
             _ => None,
         }
     }
@@ -141,7 +169,7 @@ pub fn push_total(name: &[u8], n: u128, line: &mut Line)
 /// The lines of the totals.
 pub fn totals_text(totals: &Totals) -> Line
     ensures text { result.items ≡ lines_of (totals_view totals.now) }
-    ensures len { length result.items ≤ 728 }
+    ensures len { length result.items ≤ 56 * TOTALS }
 {
     let mut line = Line::new();
     for place in 0..TOTALS {

@@ -14,7 +14,7 @@ use sd_case::{Refusal, bytes_of, number, set_number};
 use sd_memory::{
     MemBackend, MemBeat, MemClock, MemDatagrams, MemDoor, MemProbe, MemSink, MemSource, MemWire,
 };
-use sd_outside::{Backs, NoGate, read_full};
+use sd_outside::{Back, Backs, NoGate, PerBackend, read_full};
 use sd_script::{Drill, MOST_PACKETS};
 use sd_top::World;
 use std::alloc::Global;
@@ -174,11 +174,15 @@ impl Case {
         graphite.most = self.most.graphite.get();
         let mut console = MemBackend::open(alloc, self.console.bytes, self.console.parts)?;
         console.most = self.most.console.get();
-        Ok(Backs {
-            graphite,
-            console,
-            graphite_used: false,
-            console_used: true,
+        Ok(PerBackend {
+            graphite: Back {
+                object: graphite,
+                is_used: false,
+            },
+            console: Back {
+                object: console,
+                is_used: true,
+            },
         })
     }
 

@@ -12,8 +12,8 @@ use sd_memory::{
     MemBackend, MemBeat, MemClock, MemDatagrams, MemDoor, MemProbe, MemSink, MemSource, MemWire,
 };
 use sd_outside::{
-    Address, Backend, Backs, Clock, Datagrams, Door, Entry, Failed, Faulty, Gate, Next,
-    OpenRefusal, Opens, Sink, Wire,
+    Address, Back, Backend, Backs, Clock, Datagrams, Door, Entry, Failed, Faulty, Gate, Next,
+    OpenRefusal, Opens, PerBackend, Sink, Wire,
 };
 use sd_top::World;
 use std::alloc::{AllocError, Global};
@@ -273,25 +273,21 @@ fn passing_wires<'a>(
     Ok(wires)
 }
 
+/// A backend that passes a gate.
+fn passing_back<'a>(back: Back<MemBackend>, gate: &'a Order) -> Back<PassingBackend<'a>> {
+    let Back { object, is_used } = back;
+    Back {
+        object: Passing { object, gate },
+        is_used,
+    }
+}
+
 /// Backends that pass a gate.
-fn passing_backs<'a>(objects: Backs<MemBackend>, gate: &'a Order) -> Backs<PassingBackend<'a>> {
-    let Backs {
-        graphite,
-        console,
-        graphite_used,
-        console_used,
-    } = objects;
-    Backs {
-        graphite: Passing {
-            object: graphite,
-            gate,
-        },
-        console: Passing {
-            object: console,
-            gate,
-        },
-        graphite_used,
-        console_used,
+fn passing_backs<'a>(backs: Backs<MemBackend>, gate: &'a Order) -> Backs<PassingBackend<'a>> {
+    let PerBackend { graphite, console } = backs;
+    PerBackend {
+        graphite: passing_back(graphite, gate),
+        console: passing_back(console, gate),
     }
 }
 

@@ -10,8 +10,8 @@ use sd_top::Status;
 pub(crate) fn report(status: &Status, world: &MemWorld<'_>, out: &mut Answer) {
     out.text("\n  ");
     show_status(status, out);
-    show_lists(&world.backs.graphite.object, "list", out);
-    show_lists(&world.backs.console.object, "console", out);
+    show_lists(&world.backs.graphite.object.object, "list", out);
+    show_lists(&world.backs.console.object.object, "console", out);
     show_sources(&world.packets, out);
     show_wires(&world.wires, out);
     show_beat(&world.beat, out);
@@ -23,9 +23,9 @@ pub(crate) fn report(status: &Status, world: &MemWorld<'_>, out: &mut Answer) {
     show_faults(world, out);
     show_places(world, out);
     out.text("\n  used: graphite ");
-    out.yes_or_no(world.backs.graphite_used);
+    out.yes_or_no(world.backs.graphite.is_used);
     out.text(", console ");
-    out.yes_or_no(world.backs.console_used);
+    out.yes_or_no(world.backs.console.is_used);
 }
 
 /// Appends the lists that a backend was given, each with whether it was ended, under a name.
@@ -135,8 +135,8 @@ fn show_faults(world: &MemWorld<'_>, out: &mut Answer) {
     out.count("\n  faults: settings ", world.settings.faults());
     out.count(", script ", world.script.faults());
     out.count(", output ", world.output.faults());
-    out.count(", graphite ", world.backs.graphite.object.faults());
-    out.count(", console ", world.backs.console.object.faults());
+    out.count(", graphite ", world.backs.graphite.object.object.faults());
+    out.count(", console ", world.backs.console.object.object.faults());
 }
 
 /// Appends where each object was opened.
@@ -146,9 +146,9 @@ fn show_places(world: &MemWorld<'_>, out: &mut Answer) {
     out.text(", script ");
     show_address(world.script.opened_at(), out);
     out.text(", graphite ");
-    show_address(world.backs.graphite.object.opened_at(), out);
+    show_address(world.backs.graphite.object.object.opened_at(), out);
     out.text(", console ");
-    show_address(world.backs.console.object.opened_at(), out);
+    show_address(world.backs.console.object.object.opened_at(), out);
 }
 
 /// Appends an address, or `nowhere`.

@@ -35,7 +35,7 @@ fn run_past<R: Threads + Wait + RandomSource + time::Clock + Sync>(
     let mut world = case.world(alloc, gate)?;
     let status = statsd(rt, alloc, &case.words, &mut world);
     report(&status, &world, out);
-    Ok(bytes_in(&world.backs.graphite.object))
+    Ok(bytes_in(&world.backs.graphite.object.object))
 }
 
 /// `run WORDS : PARTS`: what comes of a run.

@@ -1,7 +1,7 @@
 use sd_case::{Answer, Refusal, bytes_of, number};
 use sd_config::ConfigFault;
 use sd_decimal::Line;
-use sd_outside::Name;
+use sd_outside::{BackendKind, Name};
 use sd_script::ScriptFault;
 use sd_top::{Part, Status, explain};
 use std::alloc::Global;
@@ -23,8 +23,8 @@ fn part_of(word: &str) -> Result<Part, Refusal> {
     match word {
         "settings" => Ok(Part::Settings),
         "script" => Ok(Part::Script),
-        "graphite" => Ok(Part::Graphite),
-        "console" => Ok(Part::Console),
+        "graphite" => Ok(Part::Backend(BackendKind::Graphite)),
+        "console" => Ok(Part::Backend(BackendKind::Console)),
         "beat" => Ok(Part::Beat),
         "door" => Ok(Part::Door),
         "streams" => Ok(Part::Streams),

@@ -2,7 +2,8 @@
 ghost use Rattle.std.specs.Prelude.{◌≡◌, ◌≤◌, ◌^◌};
 ghost use Rattle.sd_shared_desk.specs.Shared.{IsSeatOf};
 
-use sd_desk::{Desk, DeskFacts, Mark, RoundMarks, Tally};
+use sd_desk::{Desk, DeskFacts, Mark, Tally};
+use sd_outside::PerBackend;
 use sd_shared_desk::{DeskSeat, SharedDesk};
 use std::alloc::{AllocError, Global};
 use std::sync::Wait;
@@ -154,7 +155,7 @@ pub fn each_call<R: Wait>(
     let Some(mut own) = seats.pop() else {
         unreachable!()
     };
-    let marks = RoundMarks {
+    let marks = PerBackend {
         graphite: Mark::Fault,
         console: Mark::Written,
     };

@@ -130,8 +130,8 @@ fn facts_case<R: Wait>(
     show_tally(facts.totals, out);
     out.text(if facts.up { ", up" } else { ", down" });
     out.count(", rounds ", facts.rounds);
-    out.count(", faults ", facts.graphite_faults);
-    out.count(" ", facts.console_faults);
+    out.count(", faults ", facts.faults.graphite);
+    out.count(" ", facts.faults.console);
     out.count(" ", facts.repeater_faults);
     out.count(" ", facts.admin_faults);
     Ok(())

@@ -1,86 +1,59 @@
-ghost use Rattle.std.specs.Prelude.{◌≡◌, ◌≢◌, IsTrue};
-ghost use Rattle.sd_model_outside.specs.Outside.{Rose};
-ghost use Rattle.sd_model_outside.specs.Uses.{NotUsed, AfterMark, FitsUse};
-ghost use Rattle.sd_model_record.specs.Backends.{console_text, graphite_text};
-ghost use Rattle.sd_record.specs.Record.{record_view, room_of, SameScratch};
-ghost use Rattle.sd_desk.specs.Marks.{mark_of};
-
-use sd_console::ConsoleText;
-use sd_desk::{Mark, RoundMarks};
-use sd_graphite::GraphiteText;
-use sd_outside::{Backend, Backs, Failed};
+use crate::backs::deliver;
+use log::Log;
+use sd_desk::RoundMarks;
+use sd_outside::{Backend, Backs};
 use sd_plan::Names;
-use sd_record::{Record, RecordText};
+use sd_record::Record;
+use std::sync::Wait;
 
-/// Gives a backend the text of a record, in a list that is begun and ended. After the first call that fails it isn't
-/// called again. Where its count of faults doesn't rise, the text was written.
-fn give<T: RecordText, B: Backend>(form: &T, rec: &mut Record<'_>, back: &mut B) -> Mark
-    ensures used { mark_of result ≢ NotUsed }
-    ensures delivery { AfterMark (mark_of result) (T.text_of form.now (record_view rec.old)) (B.seen back.old) (B.seen back.new) }
-    ensures written { ¬ Rose (B.seen back.old).faults (B.seen back.new).faults → result ≡ Mark.Written }
-    ensures record { record_view rec.new ≡ record_view rec.old }
-    ensures room { room_of rec.new ≡ room_of rec.old }
-    ensures same_scratch { SameScratch rec.new rec.old }
-{
-    let Ok(()) = back.begin() else {
-        return Mark::Fault;
-    };
-    let Ok(()) = form.write(rec, back) else {
-        return Mark::Fault;
-    };
-    match back.finish() {
-        Ok(()) => Mark::Written,
-        Err(Failed) => Mark::Fault,
-    }
+/// Where the texts of rounds go: to the backends themselves, or to their outlets.
+pub trait Delivery {
+    ghost use Rattle.std.specs.Prelude.{◌≡◌, ℕ, List};
+    ghost use Rattle.sd_model_outside.specs.Backend.{Backend};
+    ghost use Rattle.sd_model_record.specs.Backends.{text_of};
+    ghost use Rattle.sd_model_record.specs.Desk.{Marks};
+    ghost use Rattle.sd_desk.specs.Marks.{marks_of};
+    ghost use Rattle.sd_record.specs.Record.{record_view, room_of, SameScratch};
+
+    // It may be given a record.
+    ghost is_ready: { Self → Type 0 };
+
+    // It was given a record with these texts, one for each backend, and answered these marks.
+    ghost gives: { (Backend → List ℕ) → Marks → Self → Self → Type 0 };
+
+    // It was told that no record comes.
+    ghost ends: { Self → Self → Type 0 };
+
+    /// Gives each backend that is used its text of a record, Graphite first, and answers how those took part that were written
+    /// to. It takes no memory.
+    fn give<R: Wait + Log>(&mut self, rt: &R, rec: &mut Record<'_>, names: &Names) -> RoundMarks
+        requires ready { is_ready self.old }
+        ensures ready { is_ready self.new }
+        ensures gives { gives (λ b. text_of names.now b (record_view rec.old)) (marks_of result) self.old self.new }
+        ensures room { room_of rec.new ≡ room_of rec.old }
+        ensures same_scratch { SameScratch rec.new rec.old };
+
+    /// Ends the delivery: no record comes.
+    fn end(&mut self)
+        requires ready { is_ready self.old }
+        ensures ready { is_ready self.new }
+        ensures ends { ends self.old self.new };
 }
 
-/// Gives a backend the text of a record where it is used, and leaves it untouched where it isn't.
-fn give_if_used<T: RecordText, B: Backend>(
-    used: bool,
-    form: &T,
-    rec: &mut Record<'_>,
-    back: &mut B,
-) -> Mark
-    ensures used { FitsUse used (mark_of result) }
-    ensures delivery { AfterMark (mark_of result) (T.text_of form.now (record_view rec.old)) (B.seen back.old) (B.seen back.new) }
-    ensures written { IsTrue used → ¬ Rose (B.seen back.old).faults (B.seen back.new).faults → result ≡ Mark.Written }
-    ensures record { record_view rec.new ≡ record_view rec.old }
-    ensures room { room_of rec.new ≡ room_of rec.old }
-    ensures same_scratch { SameScratch rec.new rec.old }
-{
-    if used {
-        give(form, rec, back)
-    } else {
-        Mark::NotUsed
-    }
-}
+/// Texts that go to the backends themselves.
+impl<B: Backend> Delivery for Backs<B> {
+    ghost use Rattle.std.specs.Prelude.{◌≡◌, ⊤};
+    ghost use Rattle.sd_delivery.specs.Delivery.{GivesBackends};
 
-/// Gives the backends that are used a record: Graphite its text, then the console its own. One that fails isn't called
-/// again, and the other goes on. One that isn't used is untouched. A backend that is used and whose count of faults
-/// doesn't rise was given the whole text. No memory is taken.
-pub fn deliver<B: Backend>(rec: &mut Record<'_>, names: &Names, backs: &mut Backs<B>) -> RoundMarks
-    ensures graphite { AfterMark (mark_of result.graphite) (graphite_text names.now (record_view rec.old))
-        (B.seen backs.old.graphite) (B.seen backs.new.graphite) }
-    ensures graphite_used { FitsUse backs.old.graphite_used (mark_of result.graphite) }
-    ensures graphite_written { IsTrue backs.old.graphite_used
-        → ¬ Rose (B.seen backs.old.graphite).faults (B.seen backs.new.graphite).faults → result.graphite ≡ Mark.Written }
-    ensures graphite_flag { backs.new.graphite_used ≡ backs.old.graphite_used }
-    ensures console { AfterMark (mark_of result.console) (console_text (record_view rec.old))
-        (B.seen backs.old.console) (B.seen backs.new.console) }
-    ensures console_used { FitsUse backs.old.console_used (mark_of result.console) }
-    ensures console_written { IsTrue backs.old.console_used
-        → ¬ Rose (B.seen backs.old.console).faults (B.seen backs.new.console).faults → result.console ≡ Mark.Written }
-    ensures console_flag { backs.new.console_used ≡ backs.old.console_used }
-    ensures record { record_view rec.new ≡ record_view rec.old }
-    ensures room { room_of rec.new ≡ room_of rec.old }
-    ensures same_scratch { SameScratch rec.new rec.old }
-{
-    let graphite = give_if_used(
-        backs.graphite_used,
-        &GraphiteText { names },
-        rec,
-        &mut backs.graphite,
-    );
-    let console = give_if_used(backs.console_used, &ConsoleText, rec, &mut backs.console);
-    RoundMarks { graphite, console }
+    ghost is_ready = { λ backs. ⊤ };
+
+    ghost gives = { GivesBackends B.seen };
+
+    ghost ends = { λ old new. new ≡ old };
+
+    fn give<R: Wait + Log>(&mut self, _rt: &R, rec: &mut Record<'_>, names: &Names) -> RoundMarks {
+        deliver(rec, names, self)
+    }
+
+    fn end(&mut self) {}
 }

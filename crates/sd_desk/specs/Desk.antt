@@ -1,6 +1,8 @@
 -- The desk of the code, as the definitions have it, and what it keeps.
 use Rattle.std.specs.Prelude.{◌^◌, ◌≤◌}
+use Rattle.sd_model_outside.specs.Backend.{Backend, each_of}
 use Rattle.sd_model_record.specs.Desk as model
+use Rattle.sd_outside.specs.Backends.{at}
 use Rattle.sd_desk.specs.Sums.{AddsUp}
 use Rattle.sd_desk.specs.Tally.{tally_of}
 use Rattle.sd_desk.specs.declared.desk.Desk.TheInside.{Inside}
@@ -14,8 +16,7 @@ desk_of d =
         totals = tally_of d.totals;
         up = d.up;
         rounds = d.rounds;
-        graphite_faults = d.graphite_faults;
-        console_faults = d.console_faults;
+        faults = each_of (at d.faults);
         repeater_faults = d.repeater_faults;
         admin_faults = d.admin_faults;
       };
@@ -26,7 +27,6 @@ desk_of d =
 pub record IsDesk (d : Inside) : Type 0 where
   pub adds_up : AddsUp (desk_of d)
   pub rounds : d.rounds ≤ 2 ^ 63
-  pub graphite_faults : d.graphite_faults ≤ 2 ^ 63
-  pub console_faults : d.console_faults ≤ 2 ^ 63
+  pub faults : (b : Backend) → at d.faults b ≤ 2 ^ 63
   pub repeater_faults : d.repeater_faults ≤ 2 ^ 63
   pub admin_faults : d.admin_faults ≤ 2 ^ 63

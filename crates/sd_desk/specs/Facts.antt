@@ -1,5 +1,7 @@
 -- The facts of a desk of the code, as the definitions have them.
+use Rattle.sd_model_outside.specs.Backend.{each_of}
 use Rattle.sd_model_record.specs.Desk as model
+use Rattle.sd_outside.specs.Backends.{at}
 use Rattle.sd_desk.specs.Tally.{tally_of}
 use Rattle.sd_desk.specs.declared.facts.DeskFacts.{DeskFacts}
 
@@ -11,8 +13,7 @@ facts_view f =
       totals = tally_of f.totals;
       up = f.up;
       rounds = f.rounds;
-      graphite_faults = f.graphite_faults;
-      console_faults = f.console_faults;
+      faults = each_of (at f.faults);
       repeater_faults = f.repeater_faults;
       admin_faults = f.admin_faults;
     }

@@ -8,8 +8,9 @@ ghost use Rattle.sd_desk.specs.Steps.{with_tally, taken, marked, with_health, wi
 
 use crate::count::counted;
 use crate::facts::DeskFacts;
-use crate::marks::RoundMarks;
+use crate::marks::{RoundMarks, count_faults};
 use crate::tally::Tally;
+use sd_outside::PerBackend;
 use std::marker::Model;
 
 /// What the server counts of itself, when the last datagram came, and whether the server is well. Each count stops at 2^63.
@@ -23,8 +24,7 @@ pub struct Desk {
     totals: Tally,
     taken_so_far: Tally,
     rounds: u64,
-    graphite_faults: u64,
-    console_faults: u64,
+    faults: PerBackend<u64>,
     repeater_faults: u64,
     admin_faults: u64,
 }
@@ -54,8 +54,7 @@ impl Desk {
             totals: Tally::none(),
             taken_so_far: Tally::none(),
             rounds: 0,
-            graphite_faults: 0,
-            console_faults: 0,
+            faults: PerBackend::of(0),
             repeater_faults: 0,
             admin_faults: 0,
         }
@@ -93,8 +92,7 @@ impl Desk {
         ensures { self.new ≡ marked self.old (marks_of m) }
     {
         self.rounds = counted(self.rounds, 1);
-        self.graphite_faults = counted(self.graphite_faults, m.graphite.faults());
-        self.console_faults = counted(self.console_faults, m.console.faults());
+        count_faults(&mut self.faults, &m);
     }
 
     /// Counts an admin session that failed.
@@ -123,8 +121,7 @@ impl Desk {
             totals: self.totals,
             up: self.up,
             rounds: self.rounds,
-            graphite_faults: self.graphite_faults,
-            console_faults: self.console_faults,
+            faults: self.faults,
             repeater_faults: self.repeater_faults,
             admin_faults: self.admin_faults,
         }

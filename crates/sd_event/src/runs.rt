@@ -84,7 +84,7 @@ impl<'a> Places<'a> {
 pub struct ServerParts<'a> {
     pub version: &'a str,
     pub places: Places<'a>,
-    pub backends: &'a str,
+    pub backends: &'a [u8],
     pub shards: u32,
     pub rows: u32,
     pub entries: u32,
@@ -102,7 +102,7 @@ pub fn server_started<L: Log>(log: &L, parts: &ServerParts<'_>) {
         tcp_port,
         mgmt_address,
         mgmt_port,
-        ("backends", Word(parts.backends)),
+        ("backends", Bytes(parts.backends)),
         ("shards", Number(u64::from(parts.shards))),
         ("rows", Number(u64::from(parts.rows))),
         ("entries", Number(u64::from(parts.entries))),

@@ -3,18 +3,18 @@ use Rattle.std.proofs.Common.{◌≡◌, ℕ, ◌+◌, ◌≤◌, Bool, true, fa
 use Rattle.std.specs.Prelude.{Result, Ok, Err, ⊤}
 use Rattle.std.specs.List.{AllByRecursion}
 use Rattle.std.proofs.lemmas.List.{map-append}
-use Rattle.sd_model_record.specs.Backends.{Backend}
+use Rattle.sd_model_outside.specs.Backend.{Backend}
 use Rattle.sd_model_serve.specs.Rounds.{Round, RecordForm, round_text}
 use Rattle.sd_outlet.specs.declared.feed.Feed.{Feed}
 use Rattle.sd_outlet.specs.declared.outlet.Outlet.{Outlet}
 use Rattle.sd_outlet.specs.Feed.{sent, stopped_at}
-use Rattle.sd_flush.specs.declared.outlets.Lead.{Lead}
-use Rattle.sd_flush.specs.declared.outlets.Leads.{Leads}
-use Rattle.sd_flush.specs.declared.outlets.Skip.{Skip}
-use Rattle.sd_flush.specs.declared.outlets.Skip.TheVariants.{Long, Full, Spent}
-use Rattle.sd_flush.specs.Leads.{GivesOutlets, IsSameLead, Offers, lead_at, offered_to, outlet_in, no_marks}
+use Rattle.sd_delivery.specs.declared.outlets.Lead.{Lead}
+use Rattle.sd_delivery.specs.declared.outlets.Leads.{Leads}
+use Rattle.sd_delivery.specs.declared.outlets.Skip.{Skip}
+use Rattle.sd_delivery.specs.declared.outlets.Skip.TheVariants.{Long, Full, Spent}
+use Rattle.sd_delivery.specs.Leads.{GivesOutlets, IsSameLead, Offers, lead_at, offered_to, outlet_in, no_marks}
 use Rattle.sd_flush.specs.Made.{GivesRounds}
-use Rattle.sd_flush.specs.Offers.{AfterOffer, AfterOffers, HasOffered, Offer, queued_by, texts_queued}
+use Rattle.sd_delivery.specs.Offers.{AfterOffer, AfterOffers, HasOffered, Offer, queued_by, texts_queued}
 
 -- What texts leave at an outlet: those that were sent.
 pub record Effects (queued : List (List ℕ)) (old new : Feed) : Type 0 where

@@ -10,9 +10,9 @@ use Rattle.sd_model_outside.specs.Uses.{with_ticks}
 use Rattle.sd_model_outside.proofs.TurnLemmas.{with_ticks-append}
 use Rattle.sd_model_shard.specs.History.{History}
 use Rattle.sd_model_record.specs.Desk.{Marks, counted}
+use Rattle.sd_model_outside.specs.Backend.{Backend}
 use Rattle.sd_shared_desk.specs.Counts.{Part, HasCounted, nothing, plus, share}
 use Rattle.sd_model_record.specs.DeskHistory.{DeskCall}
-use Rattle.sd_model_record.specs.Backends.{Backend, Graphite, Console}
 use Rattle.sd_shared_desk.proofs.CountLemmas.{counted_none, counted_next}
 use Rattle.sd_pool.specs.Adding.{Adds}
 use Rattle.sd_model_serve.specs.Rounds.{Round, RecordForm, last_second, round_calls, swaps_at}
@@ -22,11 +22,6 @@ use Rattle.sd_rows.specs.declared.row.Row.{Row}
 use Rattle.sd_flush.specs.Flushing.{MakesRoundAt}
 use Rattle.sd_model_serve.proofs.Short.{swap_of}
 use Rattle.sd_desk.specs.Sums.{Count, Amounts}
-
--- what holds at each backend
-pub at_both : (P : Backend → Type 0) → P Graphite → P Console → (b : Backend) → P b
-at_both P graphite console Graphite = graphite
-at_both P graphite console Console = console
 
 -- the same amounts, where they are counted
 counted_as : (a b : Amounts) (old new : Part) → ((c : Count) → a c ≡ b c) → HasCounted a old new → HasCounted b old new

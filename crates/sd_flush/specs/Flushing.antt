@@ -7,7 +7,7 @@ use Rattle.sd_model_settings.specs.Settings.{Names}
 use Rattle.sd_model_shard.specs.History.{History}
 use Rattle.sd_model_record.specs.Desk.{Marks}
 use Rattle.sd_shared_desk.specs.Counts.{Part}
-use Rattle.sd_model_record.specs.Backends.{Backend}
+use Rattle.sd_model_outside.specs.Backend.{Backend}
 use Rattle.sd_model_serve.specs.Receiving as model
 use Rattle.sd_model_serve.specs.Receiving.{EndsFlusher, Spent, Enough, LimitReached}
 use Rattle.sd_model_serve.specs.Rounds.{Round, RecordForm, last_second}

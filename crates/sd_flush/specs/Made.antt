@@ -4,7 +4,7 @@ use Rattle.std.specs.FinMap.{empty}
 use Rattle.sd_model_shard.specs.Shard.{Table}
 use Rattle.sd_model_shard.specs.History.{History}
 use Rattle.sd_shared_desk.specs.Counts.{Part, HasCounted, plus, of_taken, of_marks}
-use Rattle.sd_model_record.specs.Backends.{Backend}
+use Rattle.sd_model_outside.specs.Backend.{Backend}
 use Rattle.sd_model_record.specs.Desk.{Marks}
 use Rattle.sd_pool.specs.Adding.{Adds}
 use Rattle.sd_model_serve.specs.Rounds.{RecordForm, Round, round_calls, round_text, swaps_at}

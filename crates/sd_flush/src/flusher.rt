@@ -4,12 +4,12 @@ ghost use Rattle.sd_shared_desk.specs.Shared.{number_of_seat, part_of};
 ghost use Rattle.sd_flush.specs.Tables.{IsFlusherPost};
 ghost use Rattle.sd_flush.specs.Flushing.{Flushes, FlushesAtTicks, form_of};
 
-use crate::delivery::Delivery;
 use crate::flushed::Flushed;
 use crate::post::FlusherPost;
 use crate::record_form::RecordForm;
 use crate::rounds::round;
 use log::Log;
+use sd_delivery::Delivery;
 use sd_outside::{Beat, Ended, Gate, Tick};
 use sd_shared::Shared;
 use std::sync::Wait;

@@ -6,22 +6,16 @@
 //! given.
 #![tactic(auto)]
 
-mod delivery;
 mod flushed;
 mod flusher;
-mod outlets;
-mod per_backend;
 mod post;
 mod record_form;
 mod rounds;
 mod swapping;
 mod tables;
 
-pub use delivery::Delivery;
 pub use flushed::Flushed;
 pub use flusher::flush_all;
-pub use outlets::{Lead, Leads, Skip};
-pub use per_backend::PerBackend;
 pub use post::FlusherPost;
 pub use record_form::RecordForm;
 pub use rounds::round;

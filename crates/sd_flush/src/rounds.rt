@@ -12,11 +12,11 @@ ghost use Rattle.sd_shared_desk.specs.Shared.{number_of_seat, part_of};
 ghost use Rattle.sd_flush.specs.Tables.{IsFlusherPost, waiting_in};
 ghost use Rattle.sd_flush.specs.Flushing.{MakesRoundAt, form_of};
 
-use crate::delivery::Delivery;
 use crate::post::FlusherPost;
 use crate::record_form::RecordForm;
 use crate::swapping::swap_all;
 use log::Log;
+use sd_delivery::Delivery;
 use sd_desk::{RoundMarks, Tally};
 use sd_outside::Gate;
 use sd_record::{Record, RecordScratch};

@@ -7,9 +7,11 @@ use Rattle.std.proofs.lemmas.Bool.{cond-true}
 use Rattle.std.proofs.lemmas.Bool.Decides.{nat_tests}
 use Rattle.std.proofs.Math.ListN.{get_or-map}
 use Rattle.std.proofs.Math.Seq.{map-set_same}
+use Rattle.sd_model_outside.specs.Backend.{Backend}
+use Rattle.sd_model_outside.proofs.BackendLemmas.{each_with_one}
 use Rattle.sd_model_outside.specs.Outside.{File, HasRead, Interval, IsAtEnd, Left, Object, Place, Rose, Content, Unknown, fresh, left_in, opened, put_back, telling}
 use Rattle.sd_model_settings.specs.Settings.{Settings, OutOfRange, SettingsFlaw, settings, settings_by}
-use Rattle.sd_model_call.specs.Opening.{World, Opening, Part, OfSettings, OfScript, OfSource, OfBeat, OfWire, OfGraphite, OfConsole, OfDoor, OfStreams, AreRead, IsAccepted, IsFlawed, IsNotOpenedAt, longest_file, numbered, opened_all, part_in, settled, with_part}
+use Rattle.sd_model_call.specs.Opening.{World, Opening, Part, OfSettings, OfScript, OfSource, OfBeat, OfWire, OfBackend, OfDoor, OfStreams, AreRead, IsAccepted, IsFlawed, IsNotOpenedAt, longest_file, numbered, opened_all, part_in, settled, with_part}
 use Rattle.sd_model_call.specs.Call.{Answer, Done, NoMemory, NoForm, Misset, BadScript, NotOpened, NotRead, NotWritten, Worn, IsNotTaken, NotBegun, NotTaken, StopsAmong, cut_answer}
 use Rattle.sd_model_call.specs.Server.{begun_with}
 use Rattle.sd_law_call.specs.ServerCompleteness.{HasFaultOf, IsReadToRun, RunsFreely}
@@ -43,8 +45,7 @@ pub record Same {X : Type 0} (f : Object → X) (a b : World) : Type 0 where
   pub sources : map f a.served.sources ≡ map f b.served.sources
   pub beat : f a.served.beat ≡ f b.served.beat
   pub wires : map f a.seen.wires ≡ map f b.seen.wires
-  pub graphite : f a.seen.graphite ≡ f b.seen.graphite
-  pub console : f a.seen.console ≡ f b.seen.console
+  pub backs : (back : Backend) → f (a.seen.backs back) ≡ f (b.seen.backs back)
   pub door : f a.served.door ≡ f b.served.door
   pub streams : f a.served.streams ≡ f b.served.streams
   pub output : a.seen.output ≡ b.seen.output
@@ -60,8 +61,7 @@ module _ {X : Type 0} (f : Object → X) where
   same_part a b h (OfSource i) = at_same i a.served.sources b.served.sources h.sources
   same_part a b h OfBeat = h.beat
   same_part a b h (OfWire i) = at_same i a.seen.wires b.seen.wires h.wires
-  same_part a b h OfGraphite = h.graphite
-  same_part a b h OfConsole = h.console
+  same_part a b h (OfBackend back) = h.backs back
   same_part a b h OfDoor = h.door
   same_part a b h OfStreams = h.streams
 
@@ -72,27 +72,36 @@ module _ {X : Type 0} (f : Object → X) where
     sources = g.sources ∙ h.sources;
     beat = g.beat ∙ h.beat;
     wires = g.wires ∙ h.wires;
-    graphite = g.graphite ∙ h.graphite;
-    console = g.console ∙ h.console;
+    backs = λ back. g.backs back ∙ h.backs back;
     door = g.door ∙ h.door;
     streams = g.streams ∙ h.streams;
     output = g.output ∙ h.output;
   }
 
   same_self : (a : World) → Same f a a
-  same_self a = record { settings = refl; script = refl; sources = refl; beat = refl; wires = refl; graphite = refl; console = refl; door = refl; streams = refl; output = refl }
+  same_self a = record { settings = refl; script = refl; sources = refl; beat = refl; wires = refl; backs = λ b. refl; door = refl; streams = refl; output = refl }
 
   module _ (keeps : (place : Place) (o : Object) → f (opened place o) ≡ f o) where
     same_opened : (w : World) (place : Place) (part : Part) → Same f (with_part part (opened place (part_in w part)) w) w
-    same_opened w place OfSettings = record { settings = keeps place w.settings; script = refl; sources = refl; beat = refl; wires = refl; graphite = refl; console = refl; door = refl; streams = refl; output = refl }
-    same_opened w place OfScript = record { settings = refl; script = keeps place w.seen.script; sources = refl; beat = refl; wires = refl; graphite = refl; console = refl; door = refl; streams = refl; output = refl }
-    same_opened w place (OfSource i) = record { settings = refl; script = refl; sources = map-set_same f w.served.sources i _ (fresh Unknown) (keeps place _); beat = refl; wires = refl; graphite = refl; console = refl; door = refl; streams = refl; output = refl }
-    same_opened w place OfBeat = record { settings = refl; script = refl; sources = refl; beat = keeps place w.served.beat; wires = refl; graphite = refl; console = refl; door = refl; streams = refl; output = refl }
-    same_opened w place (OfWire i) = record { settings = refl; script = refl; sources = refl; beat = refl; wires = map-set_same f w.seen.wires i _ (fresh Unknown) (keeps place _); graphite = refl; console = refl; door = refl; streams = refl; output = refl }
-    same_opened w place OfGraphite = record { settings = refl; script = refl; sources = refl; beat = refl; wires = refl; graphite = keeps place w.seen.graphite; console = refl; door = refl; streams = refl; output = refl }
-    same_opened w place OfConsole = record { settings = refl; script = refl; sources = refl; beat = refl; wires = refl; graphite = refl; console = keeps place w.seen.console; door = refl; streams = refl; output = refl }
-    same_opened w place OfDoor = record { settings = refl; script = refl; sources = refl; beat = refl; wires = refl; graphite = refl; console = refl; door = keeps place w.served.door; streams = refl; output = refl }
-    same_opened w place OfStreams = record { settings = refl; script = refl; sources = refl; beat = refl; wires = refl; graphite = refl; console = refl; door = refl; streams = keeps place w.served.streams; output = refl }
+    same_opened w place OfSettings = record { settings = keeps place w.settings; script = refl; sources = refl; beat = refl; wires = refl; backs = λ b. refl; door = refl; streams = refl; output = refl }
+    same_opened w place OfScript = record { settings = refl; script = keeps place w.seen.script; sources = refl; beat = refl; wires = refl; backs = λ b. refl; door = refl; streams = refl; output = refl }
+    same_opened w place (OfSource i) = record { settings = refl; script = refl; sources = map-set_same f w.served.sources i _ (fresh Unknown) (keeps place _); beat = refl; wires = refl; backs = λ b. refl; door = refl; streams = refl; output = refl }
+    same_opened w place OfBeat = record { settings = refl; script = refl; sources = refl; beat = keeps place w.served.beat; wires = refl; backs = λ b. refl; door = refl; streams = refl; output = refl }
+    same_opened w place (OfWire i) = record { settings = refl; script = refl; sources = refl; beat = refl; wires = map-set_same f w.seen.wires i _ (fresh Unknown) (keeps place _); backs = λ b. refl; door = refl; streams = refl; output = refl }
+    same_opened w place (OfBackend back) =
+        record {
+          settings = refl;
+          script = refl;
+          sources = refl;
+          beat = refl;
+          wires = refl;
+          backs = each_with_one (λ c o. f o ≡ f (w.seen.backs c)) back (opened place (w.seen.backs back)) w.seen.backs (keeps place (w.seen.backs back)) (λ c. refl);
+          door = refl;
+          streams = refl;
+          output = refl;
+        }
+    same_opened w place OfDoor = record { settings = refl; script = refl; sources = refl; beat = refl; wires = refl; backs = λ b. refl; door = keeps place w.served.door; streams = refl; output = refl }
+    same_opened w place OfStreams = record { settings = refl; script = refl; sources = refl; beat = refl; wires = refl; backs = λ b. refl; door = refl; streams = keeps place w.served.streams; output = refl }
 
     pub same_all : (os : List Opening) (w : World) → Same f (opened_all w os) w
     same_all [] w = same_self w
@@ -122,8 +131,7 @@ module _ {X : Type 0} (f : Object → X) (opens : (place : Place) (o : Object) �
     sources = refl;
     beat = refl;
     wires = refl;
-    graphite = refl;
-    console = refl;
+    backs = λ b. refl;
     door = refl;
     streams = refl;
     output = refl;
@@ -140,8 +148,7 @@ module _ {X : Type 0} (f : Object → X) (opens : (place : Place) (o : Object) �
         sources = all.sources;
         beat = starts interval _ ∙ all.beat;
         wires = all.wires;
-        graphite = all.graphite;
-        console = all.console;
+        backs = all.backs;
         door = all.door;
         streams = all.streams;
         output = all.output;
@@ -211,7 +218,6 @@ none_failed old new runs OfScript read rose = absurd read
 none_failed old new runs (OfSource i) read rose = runs.sources i rose
 none_failed old new runs OfBeat read rose = runs.beat rose
 none_failed old new runs (OfWire i) read rose = absurd read
-none_failed old new runs OfGraphite read rose = absurd read
-none_failed old new runs OfConsole read rose = absurd read
+none_failed old new runs (OfBackend back) read rose = absurd read
 none_failed old new runs OfDoor read rose = absurd read
 none_failed old new runs OfStreams read rose = absurd read

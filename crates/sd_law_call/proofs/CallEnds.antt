@@ -3,12 +3,12 @@ use Rattle.std.proofs.Common.{◌≡◌, ◌⊎◌, ℕ, ◌<◌, IsTrue, List, 
 use Rattle.sd_model_outside.specs.Outside.{Object, Rose, File, object_at}
 use Rattle.sd_model_settings.specs.Settings.{SettingsFlaw, settings, Settings}
 use Rattle.sd_model_replay.specs.Replay.{is_used, targets_of}
-use Rattle.sd_model_record.specs.Backends.{Backend, Graphite, Console}
+use Rattle.sd_model_outside.specs.Backend.{Backend}
 use Rattle.sd_model_replay.specs.Script.{ScriptCommand, end_word, ScriptFlaw}
-use Rattle.sd_model_replay.specs.AccountingTheorem.{totals_after, Seen, ReplayTrace, AccountingTheorem, seen_at, End, Complete, Faulted, ReadFailed, WriteFailed, LimitReached, EndsAs}
+use Rattle.sd_model_replay.specs.AccountingTheorem.{totals_after, Seen, ReplayTrace, AccountingTheorem, End, Complete, Faulted, ReadFailed, WriteFailed, LimitReached, EndsAs}
 use Rattle.sd_replay.specs.Replayed.{Replayed}
 use Rattle.sd_model_call.specs.Call.{Form, Account, Answer, Done, NoMemory, Misset, NotOpened, NotRead, Answers, Accounts, HasReplayed, ending}
-use Rattle.sd_model_call.specs.Opening.{World, Part, OfSettings, OfScript, OfSource, OfBeat, OfWire, OfGraphite, OfConsole, OfDoor, OfStreams, IsAccepted, IsFlawed, opened_all, replay_openings, settled}
+use Rattle.sd_model_call.specs.Opening.{World, Part, OfSettings, OfScript, OfSource, OfBeat, OfWire, OfBackend, OfDoor, OfStreams, IsAccepted, IsFlawed, opened_all, replay_openings, settled}
 use Rattle.sd_law_call.specs.Completeness.{Asks, AsksPlainly, IsSteady, IsUnhindered, IsCutOff, IsLongest, IsWhole, IsBlocked, IsOutward, WasExecuted, NoneMissed, refusal, start_of}
 use Rattle.sd_law_call.specs.ServerCompleteness.{HasFaultOf}
 use Rattle.sd_law_call.proofs.BegunLemmas.{Same, accepted_so, at_same, has_flaw, not_begun, not_taken, same_all}
@@ -52,9 +52,8 @@ module _ (script : List ℕ) (values : Settings) (now : Object) (old : World) (n
 
   pub none_missed_started : NoneMissed values old.seen new → NoneMissed values begin new
   none_missed_started none = record { backends = backends; wires = wires } where
-    backends : (back : Backend) → IsTrue (is_used values back) → ¬ Rose (seen_at back begin).faults (seen_at back new).faults
-    backends Graphite used = subst (λ (n : ℕ). ¬ Rose n new.graphite.faults) (sym faults.graphite) (none.backends Graphite used)
-    backends Console used = subst (λ (n : ℕ). ¬ Rose n new.console.faults) (sym faults.console) (none.backends Console used)
+    backends : (back : Backend) → IsTrue (is_used values back) → ¬ Rose (begin.backs back).faults (new.backs back).faults
+    backends back used = subst (λ (n : ℕ). ¬ Rose n (new.backs back).faults) (sym (faults.backs back)) (none.backends back used)
 
     wires : (i : ℕ) → i < length (targets_of values) → ¬ Rose (object_at i begin.wires).faults (object_at i new.wires).faults
     wires i below = subst (λ (n : ℕ). ¬ Rose n (object_at i new.wires).faults) (sym (at_same (λ o. o.faults) i begin.wires old.seen.wires faults.wires)) (none.wires i below)
@@ -101,8 +100,7 @@ module _ (words : List (List ℕ)) (values : Settings) (old new : World) (plainl
     by_part s (OfSource i) h = absurd h.0
     by_part s OfBeat h = absurd h.0
     by_part s (OfWire i) h = inr (OfWire i, tt, refl)
-    by_part s OfGraphite h = inr (OfGraphite, tt, refl)
-    by_part s OfConsole h = inr (OfConsole, tt, refl)
+    by_part s (OfBackend b) h = inr (OfBackend b, tt, refl)
     by_part s OfDoor h = absurd h.0
     by_part s OfStreams h = absurd h.0
 
@@ -154,8 +152,7 @@ module _ (words : List (List ℕ)) (values : Settings) (old new : World) (plainl
     none_rose (OfSource i) out at = out
     none_rose OfBeat out at = out
     none_rose (OfWire i) out at = none.wires i at.0 at.1
-    none_rose OfGraphite out at = none.backends Graphite at.0 at.1
-    none_rose OfConsole out at = none.backends Console at.0 at.1
+    none_rose (OfBackend b) out at = none.backends b at.0 at.1
     none_rose OfDoor out at = out
     none_rose OfStreams out at = out
 

@@ -6,13 +6,13 @@ use Rattle.std.proofs.lemmas.List.Sums.{sum_by-cons}
 use Rattle.sd_model_outside.specs.Outside.{Number, Object, Rose, HasFailedBehind, appended, begun, ended, given, last_count}
 use Rattle.sd_model_outside.specs.Uses.{Mark, NotUsed, Written, Fault, Delivery, AfterMark, AfterDeliveries}
 use Rattle.sd_model_replay.specs.Replay.{bounds_of, is_used, Played, Run, first_run, play, deliveries, moments}
-use Rattle.sd_model_record.specs.Backends.{Backend, Graphite, Console}
+use Rattle.sd_model_outside.specs.Backend.{Backend, Graphite}
 use Rattle.sd_model_replay.specs.Script.{ScriptCommand, Packet, Flush, Admin, end_word}
 use Rattle.sd_model_replay.specs.MadeScript.{made_commands, made_moment, made_packet, flush_behind}
 use Rattle.sd_model_settings.specs.Settings.{default_settings, Settings}
 use Rattle.sd_model_settings.proofs.OnLiterals.{defaults_on_literals}
 use Rattle.sd_model_call.specs.Drill.{well, bytes_counted, drill_start, drilled}
-use Rattle.sd_model_replay.specs.AccountingTheorem.{output_in, output_of, totals_after, Seen, ReplayTrace, AccountingTheorem, seen_at, End, Complete, EndsAs}
+use Rattle.sd_model_replay.specs.AccountingTheorem.{output_in, output_of, totals_after, Seen, ReplayTrace, AccountingTheorem, End, Complete, EndsAs}
 use Rattle.sd_model_record.specs.Totals.{totals_text}
 use Rattle.sd_law_call.specs.Completeness.{IsSteady, NoneMissed}
 use Rattle.sd_model_replay.proofs.MadeLemmas.{legal_commands}
@@ -98,7 +98,7 @@ uses_graphite : is_used default_settings Graphite ≡ true
 unfolding defaults_on_literals
 uses_graphite = refl
 
-module _ (n : ℕ) (few : n ≤ most_packets) (output : Object) (new : Seen) (script_faults : new.script.faults ≡ 0) (graphite_faults : new.graphite.faults ≡ 0) (trace : ReplayTrace)
+module _ (n : ℕ) (few : n ≤ most_packets) (output : Object) (new : Seen) (script_faults : new.script.faults ≡ 0) (back_faults : (back : Backend) → (new.backs back).faults ≡ 0) (trace : ReplayTrace)
     (theorem : AccountingTheorem default_settings trace (drill_start n output) new) where
   steady : IsSteady default_settings (drill_start n output) new (made_commands n) (end_word ++ [])
   unfolding defaults_on_literals
@@ -110,9 +110,8 @@ module _ (n : ℕ) (few : n ≤ most_packets) (output : Object) (new : Seen) (sc
   none_missed : NoneMissed default_settings (drill_start n output) new
   unfolding defaults_on_literals
   none_missed = record { backends = backends; wires = λ i below. absurd (omega (arith, below)) } where
-    backends : (back : Backend) → IsTrue (is_used default_settings back) → ¬ Rose (seen_at back (drill_start n output)).faults (seen_at back new).faults
-    backends Graphite used rose = absurd (omega (arith, rose, graphite_faults))
-    backends Console used rose = absurd (cc)
+    backends : (back : Backend) → IsTrue (is_used default_settings back) → ¬ Rose ((drill_start n output).backs back).faults (new.backs back).faults
+    backends back used rose = absurd (omega (arith, rose, back_faults back))
 
   all_played : commands_of trace.played ≡ made_commands n → trace.played ≡ drilled n
   unfolding drilled
@@ -133,12 +132,12 @@ module _ (n : ℕ) (few : n ≤ most_packets) (output : Object) (new : Seen) (sc
   nothing : output_of default_settings (drilled n) ≡ []
   nothing = nothing_written default_settings (drilled n) all_silent
 
-  counts : trace.played ≡ drilled n → new.graphite.content ≡ Number (bytes_counted default_settings (drilled n))
+  counts : trace.played ≡ drilled n → (new.backs Graphite).content ≡ Number (bytes_counted default_settings (drilled n))
   unfolding drilled
   counts is =
-      count_all (deliveries default_settings Graphite (drilled n)) 0 (drill_start n output).graphite new.graphite (omega arith)
+      count_all (deliveries default_settings Graphite (drilled n)) 0 ((drill_start n output).backs Graphite) (new.backs Graphite) (omega arith)
       (all_written default_settings uses_graphite (first_run (drilled n)) (made_commands n)) refl
-      (subst (λ ps. AfterDeliveries (deliveries default_settings Graphite ps) (drill_start n output).graphite new.graphite) is (theorem.texts Graphite))
+      (subst (λ ps. AfterDeliveries (deliveries default_settings Graphite ps) ((drill_start n output).backs Graphite) (new.backs Graphite)) is (theorem.texts Graphite))
       ∙ ap Number (omega arith)
 
   pub drill_ends : (end : End) → EndsAs default_settings end trace (drill_start n output) new → DrillEnd n end trace output new

@@ -1,12 +1,13 @@
 -- What a call keeps of each object: its count of faults doesn't fall.
 use Rattle.std.proofs.Common.{◌≡◌, ℕ, zero, suc, ◌≤◌, List, [], ◌∷◌, set, refl, sym, ap, subst, ◌∙◌, arith, Option, Some, None, inl, inr}
 use Rattle.sd_model_outside.specs.Outside.{Place, File, Object, Used, HasRead, opened, object_at}
-use Rattle.sd_model_record.specs.Backends.{Graphite, Console}
+use Rattle.sd_model_outside.specs.Backend.{Backend}
+use Rattle.sd_model_outside.proofs.BackendLemmas.{each_with_one}
 use Rattle.sd_model_replay.specs.Replay.{deliveries}
 use Rattle.sd_model_replay.specs.AccountingTheorem.{ReplayTrace, AccountingTheorem, End, Complete, Faulted, ReadFailed, WriteFailed, LimitReached, OutputAfter}
 use Rattle.sd_model_call.specs.Drill.{drill_text}
 use Rattle.sd_model_call.specs.Call.{Form, Replay, Serve, Proxy, Drill, form, Account, Answer, Done, Answers, Accounts, HasReplayed, IsNotTaken, NotBegun, NotTaken, StopsAmong, WritesTotals}
-use Rattle.sd_model_call.specs.Opening.{World, Opening, Part, OfSettings, OfScript, OfSource, OfBeat, OfWire, OfGraphite, OfConsole, OfDoor, OfStreams, IsAccepted, OnlySettings, opened_all, part_in, replay_openings, settled, with_part}
+use Rattle.sd_model_call.specs.Opening.{World, Opening, Part, OfSettings, OfScript, OfSource, OfBeat, OfWire, OfBackend, OfDoor, OfStreams, IsAccepted, OnlySettings, opened_all, part_in, replay_openings, settled, with_part}
 use Rattle.sd_law_call.specs.Completeness.{IsScripted, start_of}
 use Rattle.sd_model_outside.proofs.DeliveryLemmas.{all_counts}
 use Rattle.sd_law_record.proofs.SendLemmas.{sends_count}
@@ -20,8 +21,7 @@ use Rattle.sd_model_replay.proofs.Short.{sendings}
 pub record Kept (old new : World) : Type 0 where
   pub settings : old.settings.faults ≤ new.settings.faults
   pub script : old.seen.script.faults ≤ new.seen.script.faults
-  pub graphite : old.seen.graphite.faults ≤ new.seen.graphite.faults
-  pub console : old.seen.console.faults ≤ new.seen.console.faults
+  pub backs : (b : Backend) → (old.seen.backs b).faults ≤ (new.seen.backs b).faults
   pub output : Used old.seen.output new.seen.output
   pub wires : (i : ℕ) → (object_at i old.seen.wires).faults ≤ (object_at i new.seen.wires).faults
 
@@ -54,32 +54,36 @@ kept_next : (a b c : World) → Kept a b → Kept b c → Kept a c
 kept_next a b c one two = record {
   settings = omega (arith, one.settings, two.settings);
   script = omega (arith, one.script, two.script);
-  graphite = omega (arith, one.graphite, two.graphite);
-  console = omega (arith, one.console, two.console);
+  backs = λ b. omega (arith, one.backs b, two.backs b);
   output = used_next a.seen.output b.seen.output c.seen.output one.output two.output;
   wires = λ i. omega (arith, one.wires i, two.wires i);
 }
 
 -- of a world that differs in one part alone, whose count isn't lower
 kept_part : (part : Part) (o : Object) (w : World) → (part_in w part).faults ≤ o.faults → Kept w (with_part part o w)
-kept_part OfSettings o w rises = record { settings = rises; script = omega arith; graphite = omega arith; console = omega arith; output = used_same w.seen.output w.seen.output refl; wires = λ i. omega arith }
-kept_part OfScript o w rises = record { settings = omega arith; script = rises; graphite = omega arith; console = omega arith; output = used_same w.seen.output w.seen.output refl; wires = λ i. omega arith }
-kept_part (OfSource j) o w rises = record { settings = omega arith; script = omega arith; graphite = omega arith; console = omega arith; output = used_same w.seen.output w.seen.output refl; wires = λ i. omega arith }
-kept_part OfBeat o w rises = record { settings = omega arith; script = omega arith; graphite = omega arith; console = omega arith; output = used_same w.seen.output w.seen.output refl; wires = λ i. omega arith }
+kept_part OfSettings o w rises = record { settings = rises; script = omega arith; backs = λ b. omega arith; output = used_same w.seen.output w.seen.output refl; wires = λ i. omega arith }
+kept_part OfScript o w rises = record { settings = omega arith; script = rises; backs = λ b. omega arith; output = used_same w.seen.output w.seen.output refl; wires = λ i. omega arith }
+kept_part (OfSource j) o w rises = record { settings = omega arith; script = omega arith; backs = λ b. omega arith; output = used_same w.seen.output w.seen.output refl; wires = λ i. omega arith }
+kept_part OfBeat o w rises = record { settings = omega arith; script = omega arith; backs = λ b. omega arith; output = used_same w.seen.output w.seen.output refl; wires = λ i. omega arith }
 kept_part (OfWire j) o w rises =
-    record { settings = omega arith; script = omega arith; graphite = omega arith; console = omega arith; output = used_same w.seen.output w.seen.output refl; wires = λ i. set_rises w.seen.wires j i o rises }
-kept_part OfGraphite o w rises = record { settings = omega arith; script = omega arith; graphite = rises; console = omega arith; output = used_same w.seen.output w.seen.output refl; wires = λ i. omega arith }
-kept_part OfConsole o w rises = record { settings = omega arith; script = omega arith; graphite = omega arith; console = rises; output = used_same w.seen.output w.seen.output refl; wires = λ i. omega arith }
-kept_part OfDoor o w rises = record { settings = omega arith; script = omega arith; graphite = omega arith; console = omega arith; output = used_same w.seen.output w.seen.output refl; wires = λ i. omega arith }
-kept_part OfStreams o w rises = record { settings = omega arith; script = omega arith; graphite = omega arith; console = omega arith; output = used_same w.seen.output w.seen.output refl; wires = λ i. omega arith }
+    record { settings = omega arith; script = omega arith; backs = λ b. omega arith; output = used_same w.seen.output w.seen.output refl; wires = λ i. set_rises w.seen.wires j i o rises }
+kept_part (OfBackend b) o w rises =
+    record {
+      settings = omega arith;
+      script = omega arith;
+      backs = each_with_one (λ c x. (w.seen.backs c).faults ≤ x.faults) b o w.seen.backs rises (λ c. omega arith);
+      output = used_same w.seen.output w.seen.output refl;
+      wires = λ i. omega arith;
+    }
+kept_part OfDoor o w rises = record { settings = omega arith; script = omega arith; backs = λ b. omega arith; output = used_same w.seen.output w.seen.output refl; wires = λ i. omega arith }
+kept_part OfStreams o w rises = record { settings = omega arith; script = omega arith; backs = λ b. omega arith; output = used_same w.seen.output w.seen.output refl; wires = λ i. omega arith }
 
 -- of a world with the same counts and the same output
 kept_same : (a b : World) → Same (λ o. o.faults) b a → Kept a b
 kept_same a b same = record {
   settings = omega (arith, same.settings);
   script = omega (arith, same.script);
-  graphite = omega (arith, same.graphite);
-  console = omega (arith, same.console);
+  backs = λ b. omega (arith, same.backs b);
   output = used_same a.seen.output b.seen.output same.output;
   wires = λ i. omega (arith, at_same (λ o. o.faults) i b.seen.wires a.seen.wires same.wires);
 }
@@ -94,8 +98,7 @@ module _ (old new : World) where
   kept_settled values now name taken = record {
     settings = read_faults taken.bytes (File name) old.settings now taken.read.read;
     script = omega arith;
-    graphite = omega arith;
-    console = omega arith;
+    backs = λ b. omega arith;
     output = used_same old.seen.output old.seen.output refl;
     wires = λ i. omega arith;
   }
@@ -130,15 +133,13 @@ module _ (old new : World) where
       let r = replayed name script answer a old new theorem h in
       let begin = start_of h.values script old new in
       let same = same_faults (replay_openings script h.values) (settled h.values new.settings old) in
-      let graphite = all_counts (deliveries h.values Graphite r.trace.played) begin.graphite new.seen.graphite (r.theorem.texts Graphite) in
-      let console = all_counts (deliveries h.values Console r.trace.played) begin.console new.seen.console (r.theorem.texts Console) in
+      let back : (b : Backend) → Used (begin.backs b) (new.seen.backs b) = λ b. (all_counts (deliveries h.values b r.trace.played) (begin.backs b) (new.seen.backs b) (r.theorem.texts b)).used in
       let read = read_faults h.taken.bytes (File name) old.settings h.settings h.taken.read.read in
       let left = ap (λ (w : World). w.settings.faults) h.others in
       record {
         settings = omega (arith, read, left);
         script = omega (arith, same.script, r.ends.script.faults);
-        graphite = omega (arith, same.graphite, graphite.used.faults);
-        console = omega (arith, same.console, console.used.faults);
+        backs = λ b. omega (arith, same.backs b, (back b).faults);
         output = used_next old.seen.output begin.output new.seen.output (used_same old.seen.output begin.output same.output) (output_used h.values h.end r.trace begin.output new.seen.output r.ends.output);
         wires = λ i. omega (arith, at_same (λ o. o.faults) i begin.wires old.seen.wires same.wires, (sends_count (sends_on i (sendings r.trace.played)) (object_at i begin.wires) (object_at i new.seen.wires) (r.theorem.sends.each i)).used.faults);
       }
@@ -150,7 +151,7 @@ module _ (old new : World) where
 
   -- a call that changed nothing but the output
   kept_output : OnlyOutput old new → Used old.seen.output new.seen.output → Kept old new
-  kept_output only used = subst (Kept old) (sym only) (record { settings = omega arith; script = omega arith; graphite = omega arith; console = omega arith; output = used; wires = λ i. omega arith })
+  kept_output only used = subst (Kept old) (sym only) (record { settings = omega arith; script = omega arith; backs = λ b. omega arith; output = used; wires = λ i. omega arith })
 
   -- a call that changed nothing
   kept_all : new ≡ old → Kept old new

@@ -1,13 +1,13 @@
 -- The parts that a replay opens.
-use Rattle.std.proofs.Common.{◌≡◌, ℕ, ◌+◌, ◌<◌, ◌≤◌, Bool, true, false, List, [], ◌∷◌, ◌++◌, length, map, refl, arith, length-append}
+use Rattle.std.proofs.Common.{flat_map, ◌≡◌, ℕ, ◌+◌, ◌<◌, ◌≤◌, Bool, true, false, List, [], ◌∷◌, ◌++◌, length, map, refl, arith, length-append}
 use Rattle.std.specs.Prelude.{⊤}
 use Rattle.std.specs.List.{AllByRecursion}
 use Rattle.std.proofs.lemmas.List.{length-map}
 use Rattle.sd_model_outside.specs.Outside.{File, Place}
 use Rattle.sd_model_replay.specs.Replay.{targets_of, is_used}
-use Rattle.sd_model_call.specs.Opening.{Opening, Part, OfScript, OfWire, OfGraphite, OfConsole, numbered, opening_where, repeated, replay_openings, wire_openings}
+use Rattle.sd_model_call.specs.Opening.{Opening, Part, OfScript, OfWire, OfBackend, backend_openings, numbered, opening_where, repeated, replay_openings, wire_openings}
 use Rattle.sd_model_settings.specs.Settings.{Settings}
-use Rattle.sd_model_record.specs.Backends.{Graphite, Console}
+use Rattle.sd_model_outside.specs.Backend.{Backend, backends}
 use Rattle.sd_model_call.proofs.Short.{target_place}
 
 pub all_append : (P : Opening → Type 0) (before behind : List Opening) → AllByRecursion P before → AllByRecursion P behind → AllByRecursion P (before ++ behind)
@@ -23,12 +23,21 @@ pub all_where : (P : Opening → Type 0) (used : Bool) (o : Opening) → (used �
 all_where P true o is = (is refl, tt)
 all_where P false o is = tt
 
+-- what holds of each backend that is used holds of each that is opened
+pub all_backends : (P : Opening → Type 0) (s : Settings) (places : Backend → Place) → ((b : Backend) → is_used s b ≡ true → P (record { part = OfBackend b; place = places b })) → AllByRecursion P (backend_openings s places)
+all_backends P s places is = among backends where
+  one : Backend → List Opening
+  one b = opening_where (is_used s b) (record { part = OfBackend b; place = places b })
+
+  among : (bs : List Backend) → AllByRecursion P (flat_map one bs)
+  among [] = tt
+  among (b ∷ bs) = all_append P (one b) (flat_map one bs) (all_where P (is_used s b) (record { part = OfBackend b; place = places b }) (is b)) (among bs)
+
 -- the settings name a part
 abbrev pub IsNamed : Settings → Part → Type 0
 IsNamed s OfScript = ⊤
 IsNamed s (OfWire i) = i < length (targets_of s)
-IsNamed s OfGraphite = is_used s Graphite ≡ true
-IsNamed s OfConsole = is_used s Console ≡ true
+IsNamed s (OfBackend b) = is_used s b ≡ true
 IsNamed s part = ⊥
 
 module _ (s : Settings) where
@@ -43,12 +52,10 @@ module _ (s : Settings) where
 pub all_named : (script : List ℕ) (s : Settings) → AllByRecursion (λ o. IsNamed s o.part) (replay_openings script s)
 all_named script s =
     let is_named : Opening → Type 0 = λ o. IsNamed s o.part in
-    let graphite : Opening = record { part = OfGraphite; place = File [] } in
-    let console : Opening = record { part = OfConsole; place = File [] } in
     let places = map target_place (targets_of s) in
     let count = length-map (targets_of s) target_place in
     let one_run = length-append places [] in (
       tt,
-      all_append is_named (wire_openings 1 s) (opening_where (is_used s Graphite) graphite ++ opening_where (is_used s Console) console) (wires_named s 0 (repeated 1 places) (omega (arith, count, one_run)))
-          (all_append is_named (opening_where (is_used s Graphite) graphite) (opening_where (is_used s Console) console) (all_where is_named (is_used s Graphite) graphite (λ on. on)) (all_where is_named (is_used s Console) console (λ on. on))),
+      all_append is_named (wire_openings 1 s) (backend_openings s (λ b. File [])) (wires_named s 0 (repeated 1 places) (omega (arith, count, one_run)))
+          (all_backends is_named s (λ b. File []) (λ b used. used)),
     )

@@ -10,7 +10,7 @@ use Rattle.sd_model_serve.specs.Receiving.{LoopEnd, Spent, Failed, Enough, Limit
 use Rattle.sd_model_proxy.specs.Relays.{Relay}
 use Rattle.sd_model_live.specs.Port.{has_port}
 use Rattle.sd_model_call.specs.Call.{Form, Proxy, form, Answer, Done, NoMemory, NoForm, Misset, BadScript, NotOpened, NotRead, NotWritten, Worn, WritesTotals}
-use Rattle.sd_model_call.specs.Opening.{World, Opening, Part, OfSettings, OfScript, OfSource, OfBeat, OfWire, OfGraphite, OfConsole, OfDoor, OfStreams, IsAccepted, IsFlawed, numbered, repeated, settled}
+use Rattle.sd_model_call.specs.Opening.{World, Opening, Part, OfSettings, OfScript, OfSource, OfBeat, OfWire, OfBackend, OfDoor, OfStreams, IsAccepted, IsFlawed, numbered, repeated, settled}
 use Rattle.sd_law_call.specs.Completeness.{IsBlocked, IsWhole}
 use Rattle.sd_model_call.specs.Server.{has_streams, reached_limit, source_openings, stream_openings}
 use Rattle.sd_law_call.specs.ServerCompleteness.{AsksFor, HasFaultOf, SourceTookMost, AreRelaysSpent, IsOtherOfProxy, IsOpenedToRelay, IsProxyCauseOf, IsRelayed, IsUnhinderedProxy, NoOtherFailed, OneLoopTookMost}
@@ -164,8 +164,7 @@ module _ (words : List (List ℕ)) (bytes : List ℕ) (old new : World) (asks : 
       by_cause (NotOpened (OfSource i)) h = absurd (steady.runs.sources i h.1)
       by_cause (NotOpened OfBeat) h = absurd h.0
       by_cause (NotOpened (OfWire i)) h = inr (OfWire i, tt, refl)
-      by_cause (NotOpened OfGraphite) h = absurd h.0
-      by_cause (NotOpened OfConsole) h = absurd h.0
+      by_cause (NotOpened (OfBackend b)) h = absurd h.0
       by_cause (NotOpened OfDoor) h = inr (OfDoor, tt, refl)
       by_cause (NotOpened OfStreams) h = inr (OfStreams, tt, refl)
       by_cause (NotRead part) h = absurd (none_failed old new steady.runs part h.0 h.1)
@@ -187,8 +186,7 @@ module _ (words : List (List ℕ)) (bytes : List ℕ) (old new : World) (asks : 
         not_another OfScript is_other rose = absurd is_other
         not_another (OfSource i) is_other rose = absurd is_other
         not_another OfBeat is_other rose = absurd is_other
-        not_another OfGraphite is_other rose = absurd is_other
-        not_another OfConsole is_other rose = absurd is_other
+        not_another (OfBackend b) is_other rose = absurd is_other
 
         is_whole : (answer : Answer) → IsProxyCauseOf asks.name answer old new → IsRelayed answer → IsWhole Done answer
         is_whole answer h (inl done) = done

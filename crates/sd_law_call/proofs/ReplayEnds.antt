@@ -1,4 +1,5 @@
 -- How a replay ends whose script tells its records, where no fault was counted.
+use Rattle.sd_model_outside.proofs.BackendLemmas.{at_each, same_each}
 use Rattle.std.proofs.Common.{◌≡◌, ◌⊎◌, ℕ, suc, ◌+◌, ◌<◌, Bool, true, false, cond, get_or, IsTrue, List, [], ◌∷◌, ◌++◌, length, map, min, refl, sym, ap, subst, ◌∙◌, arith, append_assoc, append-nil, length-append, inl, inr}
 use Rattle.std.specs.Prelude.{⊤}
 use Rattle.std.specs.List.{AllByRecursion}
@@ -7,14 +8,14 @@ use Rattle.std.proofs.lemmas.List.Sums.{sum_by-cons}
 use Rattle.sd_model_outside.specs.Outside.{Content, Unknown, Left, Number, Bytes, Buffer, Rounds, Packets, Datagrams, Ticks, Sessions, Replies, Rose, put_back, given, last_count, object_at}
 use Rattle.sd_model_outside.specs.Uses.{Mark, fault_of, Delivery, AfterDeliveries, FitsUse, missed, AreRepeated}
 use Rattle.sd_model_replay.specs.Replay.{bounds_of, is_used, targets_of, Outcome, Played, Run, IsOutcome, first_run, run_of, play, deliveries}
-use Rattle.sd_model_record.specs.Backends.{Backend, Graphite, Console, mark_of}
+use Rattle.sd_model_outside.specs.Backend.{Backend, at_backend, each_of}
 use Rattle.sd_model_replay.specs.Script.{ScriptCommand, Packet, Flush, Admin, spelled, end_word, script_text, IsLegal, BeginsEnd, ScriptFlaw, Next, Executed, Ending, Faulty, Begins}
 use Rattle.sd_law_call.specs.Behind.{BeginsRecord, behind}
 use Rattle.sd_model_settings.specs.Entries.{Target}
 use Rattle.sd_law_record.specs.Sends.{failed_among}
 use Rattle.sd_model_shard.specs.Shard.{table_of}
 use Rattle.sd_model_call.specs.Drill.{well}
-use Rattle.sd_model_replay.specs.AccountingTheorem.{output_in, output_of, totals_after, Seen, ReplayTrace, AccountingTheorem, seen_at, End, Complete, Faulted, ReadFailed, WriteFailed, LimitReached, StopsFor, IsInReply, IsBrokenOff, EndsAs}
+use Rattle.sd_model_replay.specs.AccountingTheorem.{output_in, output_of, totals_after, Seen, ReplayTrace, AccountingTheorem, End, Complete, Faulted, ReadFailed, WriteFailed, LimitReached, StopsFor, IsInReply, IsBrokenOff, EndsAs}
 use Rattle.sd_model_record.specs.Totals.{Total, totals_text}
 use Rattle.sd_replay.specs.Replayed.{Replayed}
 use Rattle.sd_law_call.specs.Completeness.{EndsSo, IsSteady, IsUnhindered, IsCutOff, IsLongest, WasExecuted, WasExecutedWell, NoneMissed}
@@ -319,7 +320,7 @@ module _ (settings : Settings) where
 
   -- a flush more, before others
   missed-flush : (run : Run) (ts : ℕ) (outcome : Outcome) (played : List Played) (back : Backend) → missed (deliveries_from run back (record { command = Flush ts; outcome = outcome } ∷ played))
-      ≡ fault_of (mark_of back outcome.marks) + missed (deliveries_from (play (bounds_of settings) run (record { command = Flush ts; outcome = outcome })) back played)
+      ≡ fault_of (at_backend outcome.marks back) + missed (deliveries_from (play (bounds_of settings) run (record { command = Flush ts; outcome = outcome })) back played)
   missed-flush run ts outcome played back =
       sum_by-cons (λ (d : Delivery). fault_of d.mark) (delivery_of settings back (record { ts = ts; tally = run.desk.tally; tables = λ i. table_of (run.shards i); marks = outcome.marks }))
       (deliveries_from (play (bounds_of settings) run (record { command = Flush ts; outcome = outcome })) back played)
@@ -338,11 +339,11 @@ module _ (settings : Settings) where
       ap (λ ps. record { command = Packet who moment datagram; outcome = outcome } ∷ ps) (others met (λ i below. omega (arith, sent i below, failed_among-sends_on datagram outcome.failed (sendings played) i)))
       ∙ (λ i. record { command = Packet who moment datagram; outcome = record { marks = marks i; failed = failed i } } ∷ map (well settings) (commands_of played))
   one_well run (Flush ts) outcome played is met sent others =
-      let graphite = written_or_unused (is_used settings Graphite) outcome.marks.graphite (is.1 Graphite) (λ on. omega (arith, met Graphite on, missed-flush run ts outcome played Graphite)) in
-      let console = written_or_unused (is_used settings Console) outcome.marks.console (is.1 Console) (λ on. omega (arith, met Console on, missed-flush run ts outcome played Console)) in
+      let written : Backend → Mark = λ back. well_mark (is_used settings back) in
+      let marks = same_each outcome.marks (each_of written) (λ back. written_or_unused (is_used settings back) (at_backend outcome.marks back) (is.1 back) (λ on. omega (arith, met back on, missed-flush run ts outcome played back)) ∙ sym (at_each written back)) in
       let failed = is.0 in
       ap (λ ps. record { command = Flush ts; outcome = outcome } ∷ ps) (others (λ back on. omega (arith, met back on, missed-flush run ts outcome played back)) sent)
-      ∙ (λ i. record { command = Flush ts; outcome = record { marks = record { graphite = graphite i; console = console i }; failed = failed i } } ∷ map (well settings) (commands_of played))
+      ∙ (λ i. record { command = Flush ts; outcome = record { marks = marks i; failed = failed i } } ∷ map (well settings) (commands_of played))
   one_well run (Admin moment line) outcome played is met sent others =
       let marks = is.0 in
       let failed = is.1 in
@@ -358,8 +359,8 @@ module _ (settings : Settings) where
 pub played_well : (settings : Settings) (old new : Seen) (trace : ReplayTrace) → AccountingTheorem settings trace old new → NoneMissed settings old new → trace.played ≡ map (well settings) (commands_of trace.played)
 played_well settings old new trace theorem none =
     let played = trace.played in
-    let met : IsMet settings (first_run played) played = λ back on. none_missed (missed (deliveries settings back played)) (seen_at back old) (seen_at back new) (none.backends back on)
-    (all_counts (deliveries settings back played) (seen_at back old) (seen_at back new) (theorem.texts back)) in
+    let met : IsMet settings (first_run played) played = λ back on. none_missed (missed (deliveries settings back played)) (old.backs back) (new.backs back) (none.backends back on)
+    (all_counts (deliveries settings back played) (old.backs back) (new.backs back) (theorem.texts back)) in
     let sent : AreAllSent settings played = λ i below. none_missed (failed_among (sends_on i (sendings played))) (object_at i old.wires) (object_at i new.wires) (none.wires i below)
     (sends_count (sends_on i (sendings played)) (object_at i old.wires) (object_at i new.wires) (theorem.sends.each i)) in
     all_well settings (first_run played) played theorem.used met sent
@@ -368,7 +369,7 @@ pub executes_well : (settings : Settings) (old new : Seen) (commands : List Scri
 executes_well settings old new commands rest none out =
     let alike : out.trace.played ≡ map (well settings) commands = played_well settings old new out.trace out.theorem none ∙ ap (map (well settings)) out.all in
     record {
-      backends = λ back. subst (λ ps. AfterDeliveries (deliveries settings back ps) (seen_at back old) (seen_at back new)) alike (out.theorem.texts back);
+      backends = λ back. subst (λ ps. AfterDeliveries (deliveries settings back ps) (old.backs back) (new.backs back)) alike (out.theorem.texts back);
       wires = subst (λ ps. AreRepeated (sendings ps) old.wires new.wires) alike out.theorem.sends;
       output = subst (λ ps. new.output ≡ given (output_of settings ps ++ totals_text (totals_after settings ps)) old.output) alike out.output;
     }

@@ -13,15 +13,14 @@ use Rattle.sd_model_serve.specs.Receiving.{LoopEnd, Spent, Failed, Enough, Limit
 use Rattle.sd_model_stream.specs.Streams.{any_reached_limit, LineTrace}
 use Rattle.sd_model_run.specs.Run.{ServerTrace, AreLineTraces, rounds_in}
 use Rattle.sd_model_call.specs.Call.{Form, Serve, form, Answer, Done, NoMemory, NoForm, Misset, BadScript, NotOpened, NotRead, NotWritten, Worn, WritesTotals}
-use Rattle.sd_model_call.specs.Opening.{World, Opening, Part, OfSettings, OfScript, OfSource, OfBeat, OfWire, OfGraphite, OfConsole, OfDoor, OfStreams, IsAccepted, IsFlawed, opening_where, repeated, settled, wire_openings}
+use Rattle.sd_model_call.specs.Opening.{World, Opening, Part, OfSettings, OfScript, OfSource, OfBeat, OfWire, OfBackend, OfDoor, OfStreams, IsAccepted, IsFlawed, backend_openings, opening_where, repeated, settled, wire_openings}
 use Rattle.sd_law_call.specs.Completeness.{IsWhole, IsBlocked}
 use Rattle.sd_model_record.specs.Totals.{totals_text}
-use Rattle.sd_model_call.specs.Server.{AnswersServer, HasServed, ServerAccounts, door_openings, has_streams, reached_limit, run_totals, server_openings, source_openings}
+use Rattle.sd_model_call.specs.Server.{backend_place, AnswersServer, HasServed, ServerAccounts, door_openings, has_streams, reached_limit, run_totals, server_openings, source_openings}
 use Rattle.sd_law_call.specs.ServerCompleteness.{AStreamTookMost, AreAllSpent, AsksFor, HasFaultOf, IsCauseOf, IsOpenedToServe, IsOutermost, IsServed, IsUnhinderedServer, NoneFailed, OneTookMost, TookMost}
 use Rattle.sd_law_call.proofs.BegunLemmas.{Same, all_numbered, accepted_so, at_same, has_flaw, none_failed, not_begun, not_taken, same_start, uncut}
 use Rattle.sd_law_call.proofs.LoopEnds.{AllDone, AreEnded, ComesFrom, OneSourceTookMost, all_done, beat_spent, both_false, comes_from, whole_done, limit_at_one}
-use Rattle.sd_law_call.proofs.Openings.{all_append, all_where}
-use Rattle.sd_model_record.specs.Backends.{Graphite, Console}
+use Rattle.sd_law_call.proofs.Openings.{all_backends, all_append, all_where}
 use Rattle.sd_model_run.proofs.Short.{AreReceiverTraces}
 use Rattle.sd_model_call.proofs.Short.{target_place, flush_interval, server_begun, run_answer}
 
@@ -31,18 +30,14 @@ is_served o = IsOpenedToServe o.part
 
 all_served : (s : Settings) → AllByRecursion is_served (server_openings s)
 all_served s =
-    let at_graphite : Opening = record { part = OfGraphite; place = Host s.addresses.graphite_host s.addresses.graphite_port } in
-    let at_console : Opening = record { part = OfConsole; place = File [] } in
     let at_streams : Opening = record { part = OfStreams; place = Host s.addresses.address s.transport.tcp_port } in
     let at_door : Opening = record { part = OfDoor; place = Host s.addresses.mgmt_address s.server.mgmt_port } in
     let doors = door_openings s in
-    let graphite = opening_where (is_used s Graphite) at_graphite in
-    let console = opening_where (is_used s Console) at_console in
     let each_door : AllByRecursion is_served doors = all_append is_served (opening_where (has_streams s) at_streams) (at_door ∷ []) (all_where is_served (has_streams s) at_streams (λ on. tt)) (tt, tt) in
-    all_append is_served (source_openings s) (wire_openings s.sizes.receivers s ++ (graphite ++ (console ++ doors))) (all_numbered IsOpenedToServe OfSource (λ i. tt) 0 (repeated s.sizes.receivers (Datagrams s.addresses.address s.server.port s.transport.receive_buffer ∷ [])))
-    (all_append is_served (wire_openings s.sizes.receivers s) (graphite ++ (console ++ doors)) (all_numbered IsOpenedToServe OfWire (λ i. tt) 0 (repeated s.sizes.receivers (map target_place (targets_of s))))
-    (all_append is_served graphite (console ++ doors) (all_where is_served (is_used s Graphite) at_graphite (λ on. tt))
-    (all_append is_served console doors (all_where is_served (is_used s Console) at_console (λ on. tt)) each_door)))
+    let backs = backend_openings s (backend_place s) in
+    all_append is_served (source_openings s) (wire_openings s.sizes.receivers s ++ (backs ++ doors)) (all_numbered IsOpenedToServe OfSource (λ i. tt) 0 (repeated s.sizes.receivers (Datagrams s.addresses.address s.server.port s.transport.receive_buffer ∷ [])))
+    (all_append is_served (wire_openings s.sizes.receivers s) (backs ++ doors) (all_numbered IsOpenedToServe OfWire (λ i. tt) 0 (repeated s.sizes.receivers (map target_place (targets_of s))))
+    (all_append is_served backs doors (all_backends is_served s (backend_place s) (λ b used. tt)) each_door))
 
 are_ended : (asked made run : ℕ) (rs : List ReceiverTrace) (ss ns ws wn : List Object) → AreReceiverTraces asked made run rs ss ns ws wn → AreEnded asked made (map (λ r. r.ended) rs) ss ns
 are_ended asked made run [] ss ns ws wn h = tt
@@ -254,8 +249,7 @@ module _ (words : List (List ℕ)) (bytes : List ℕ) (says : ℕ → Type 0) (o
     by_cause stream none (NotOpened (OfSource i)) h = absurd (steady.runs.sources i h.1)
     by_cause stream none (NotOpened OfBeat) h = absurd h.0
     by_cause stream none (NotOpened (OfWire i)) h = inr (OfWire i, tt, refl)
-    by_cause stream none (NotOpened OfGraphite) h = inr (OfGraphite, tt, refl)
-    by_cause stream none (NotOpened OfConsole) h = inr (OfConsole, tt, refl)
+    by_cause stream none (NotOpened (OfBackend b)) h = inr (OfBackend b, tt, refl)
     by_cause stream none (NotOpened OfDoor) h = inr (OfDoor, tt, refl)
     by_cause stream none (NotOpened OfStreams) h = inr (OfStreams, tt, refl)
     by_cause stream none (NotRead part) h = absurd (none_failed old new steady.runs part h.0 h.1)
@@ -279,8 +273,7 @@ module _ (words : List (List ℕ)) (bytes : List ℕ) (says : ℕ → Type 0) (o
       not_failed (OfSource i) outer = absurd outer
       not_failed OfBeat outer = absurd outer
       not_failed (OfWire i) outer = none.wires i
-      not_failed OfGraphite outer = none.graphite
-      not_failed OfConsole outer = none.console
+      not_failed (OfBackend b) outer = none.backs b
       not_failed OfDoor outer = none.door
       not_failed OfStreams outer = none.streams
 

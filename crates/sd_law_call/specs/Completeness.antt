@@ -5,14 +5,14 @@ use Rattle.std.specs.List.{AllByRecursion}
 use Rattle.sd_model_outside.specs.Outside.{Left, Rose, given, object_at}
 use Rattle.sd_model_outside.specs.Uses.{AfterDeliveries, AreRepeated}
 use Rattle.sd_model_replay.specs.Replay.{is_used, targets_of, deliveries, sending_by}
-use Rattle.sd_model_record.specs.Backends.{Backend}
+use Rattle.sd_model_outside.specs.Backend.{Backend}
 use Rattle.sd_model_replay.specs.Script.{ScriptCommand, end_word, script_text, IsLegal, ScriptFlaw, Faulty, Begins}
 use Rattle.sd_model_call.specs.Drill.{well}
-use Rattle.sd_model_replay.specs.AccountingTheorem.{output_of, totals_after, Seen, ReplayTrace, AccountingTheorem, seen_at, End, WriteFailed}
+use Rattle.sd_model_replay.specs.AccountingTheorem.{output_of, totals_after, Seen, ReplayTrace, AccountingTheorem, End, WriteFailed}
 use Rattle.sd_model_record.specs.Totals.{totals_text}
 use Rattle.sd_law_call.specs.Behind.{behind}
 use Rattle.sd_model_settings.specs.Settings.{SettingsFlaw, settings, Settings}
-use Rattle.sd_model_call.specs.Opening.{World, Part, OfSettings, OfWire, OfGraphite, OfConsole, settled, replay_openings, opened_all}
+use Rattle.sd_model_call.specs.Opening.{World, Part, OfSettings, OfWire, OfBackend, settled, replay_openings, opened_all}
 use Rattle.sd_model_serve.specs.Receiving.{most_turns}
 
 -- the words are none that ask for the server or the proxy
@@ -69,7 +69,7 @@ start_of values script old new = (opened_all (settled values new.settings old) (
 
 -- no fault was counted of a backend that is used, nor of the wire of a target
 pub record NoneMissed (settings : Settings) (old new : Seen) : Type 0 where
-  pub backends : (back : Backend) → IsTrue (is_used settings back) → ¬ Rose (seen_at back old).faults (seen_at back new).faults
+  pub backends : (back : Backend) → IsTrue (is_used settings back) → ¬ Rose (old.backs back).faults (new.backs back).faults
   pub wires : (i : ℕ) → i < length (targets_of settings) → ¬ Rose (object_at i old.wires).faults (object_at i new.wires).faults
 
 -- the answer that is expected, or that no memory was left
@@ -79,8 +79,7 @@ IsWhole ended answer = (answer ≡ ended) ⊎ (answer ≡ NoMemory)
 -- a wire or a backend, whose faults never end a replay that has begun
 abbrev pub IsOutward : Part → Type 0
 IsOutward (OfWire i) = ⊤
-IsOutward OfGraphite = ⊤
-IsOutward OfConsole = ⊤
+IsOutward (OfBackend b) = ⊤
 IsOutward part = ⊥
 
 -- besides, that a wire or a backend couldn't be opened
@@ -111,6 +110,6 @@ pub record WasExecuted (settings : Settings) (old new : Seen) (commands : List S
 -- each backend that is used got the whole text of each flush of these records, each other one is untouched, the wire of each
 -- target got each packet, and the output got their replies and then their totals
 pub record WasExecutedWell (settings : Settings) (old new : Seen) (commands : List ScriptCommand) : Type 0 where
-  pub backends : (back : Backend) → AfterDeliveries (deliveries settings back (map (well settings) commands)) (seen_at back old) (seen_at back new)
+  pub backends : (back : Backend) → AfterDeliveries (deliveries settings back (map (well settings) commands)) (old.backs back) (new.backs back)
   pub wires : AreRepeated (filter_map (λ p. sending_by p.command p.outcome) (map (well settings) commands)) old.wires new.wires
   pub output : (let played = map (well settings) commands in new.output ≡ given (output_of settings played ++ totals_text (totals_after settings played)) old.output)

@@ -3,6 +3,7 @@
 use mathlib.Core.Logic.{inl, inr}
 use Rattle.std.specs.Prelude.{◌≡◌, ◌⊎◌, ℕ, ◌+◌, ◌<◌, min, Bool, true, ⊤, List, Some}
 use Rattle.std.specs.List.{list_any}
+use Rattle.sd_model_outside.specs.Backend.{Backend}
 use Rattle.sd_model_outside.specs.Outside.{File, Left, Object, Rose, last_count, object_at}
 use Rattle.sd_model_outside.specs.Uses.{IsSpent}
 use Rattle.sd_model_serve.specs.Receiving.{most_turns}
@@ -61,8 +62,7 @@ IsOutermost part = IsOutward part
 -- no fault was counted of one of them
 pub record NoneFailed (old new : World) : Type 0 where
   pub wires : (i : ℕ) → ¬ Rose (object_at i old.seen.wires).faults (object_at i new.seen.wires).faults
-  pub graphite : ¬ Rose old.seen.graphite.faults new.seen.graphite.faults
-  pub console : ¬ Rose old.seen.console.faults new.seen.console.faults
+  pub backs : (b : Backend) → ¬ Rose (old.seen.backs b).faults (new.seen.backs b).faults
   pub door : ¬ Rose old.served.door.faults new.served.door.faults
   pub streams : ¬ Rose old.served.streams.faults new.served.streams.faults
 

@@ -1,4 +1,5 @@
 ghost use Rattle.std.specs.Prelude.{◌≡◌, ◌≤◌, ℕ, List, length, min, Some, None, Ok, Err};
+ghost use Rattle.sd_model_outside.specs.Backend.{Backend};
 ghost use Rattle.sd_model_outside.specs.Outside.{Rose, Used, given, last_count, object_at};
 ghost use Rattle.sd_model_settings.specs.Settings.{SettingsFlaw, settings, Settings};
 ghost use Rattle.sd_model_replay.specs.Script.{ScriptCommand, script_text, ScriptFlaw};
@@ -96,12 +97,10 @@ pub fn faults_are_kept()
         → IsScripted (form words) → Accounts words old new answer → old.settings.faults ≤ new.settings.faults }
     ensures script { (words : List (List ℕ)) (old new : World) (answer : Answer)
         → IsScripted (form words) → Accounts words old new answer → old.seen.script.faults ≤ new.seen.script.faults }
-    ensures graphite { (words : List (List ℕ)) (old new : World) (answer : Answer)
-        → IsScripted (form words) → Accounts words old new answer → old.seen.graphite.faults ≤ new.seen.graphite.faults }
+    ensures backs { (words : List (List ℕ)) (old new : World) (answer : Answer) (b : Backend)
+        → IsScripted (form words) → Accounts words old new answer → (old.seen.backs b).faults ≤ (new.seen.backs b).faults }
     ensures output { (words : List (List ℕ)) (old new : World) (answer : Answer)
         → IsScripted (form words) → Accounts words old new answer → Used old.seen.output new.seen.output }
-    ensures console { (words : List (List ℕ)) (old new : World) (answer : Answer)
-        → IsScripted (form words) → Accounts words old new answer → old.seen.console.faults ≤ new.seen.console.faults }
     ensures wires { (words : List (List ℕ)) (old new : World) (answer : Answer) (i : ℕ)
         → IsScripted (form words) → Accounts words old new answer → (object_at i old.seen.wires).faults ≤ (object_at i new.seen.wires).faults }
 {}

@@ -22,7 +22,8 @@ use Rattle.sd_model_record.specs.Replies.{AdminReply, Stats, Rows, Gone, Finish,
 use Rattle.sd_model_replay.specs.Replay.{Bounds, bounds_of, policy_of, limits_of, Outcome, Played, Run, first_run, events_of_record, acts_of_record, replies_to, desk_after_record, desk_after_line, play, run_of, Moment, moments, form_of, round_by, rounds, deliveries}
 use Rattle.sd_model_replay.specs.Script.{ScriptCommand, Packet, Flush, Admin}
 use Rattle.sd_model_outside.specs.Uses.{Delivery, failures}
-use Rattle.sd_model_record.specs.Backends.{Backend, text_of, mark_of}
+use Rattle.sd_model_outside.specs.Backend.{Backend, at_backend}
+use Rattle.sd_model_record.specs.Backends.{text_of}
 use Rattle.sd_model_serve.specs.Rounds.{Round, round_record}
 use Rattle.sd_law_shards.specs.Records.{records}
 use Rattle.sd_model_replay.specs.AccountingTheorem.{broadcasts, replies_in, output_in, output_of}
@@ -188,7 +189,7 @@ module _ (settings : Settings) (n m : ℕ) (some_n : 1 ≤ n) (some_m : 1 ≤ m)
 
   pub deliveries_alike : (played : List Played) → NoneDropped (bounds_of S) played → NoneDropped (bounds_of T) played → (back : Backend) → deliveries S back played ≡ deliveries T back played
   deliveries_alike played none_n none_m back =
-      let deliver : Settings → Record × Marks → Delivery = λ s r. record { text = text_of (names_of s) back r.0; mark = mark_of back r.1 } in
+      let deliver : Settings → Record × Marks → Delivery = λ s r. record { text = text_of (names_of s) back r.0; mark = at_backend r.1 back } in
       sym (map-map (deliver S) (recorded S) (rounds (bounds_of S) played))
       ∙ ap (map (deliver S)) (rounds_alike (first_run played) (first_run played) (λ id. nothing) played (alike_first n m played) none_n none_m)
       ∙ map-map (deliver T) (recorded T) (rounds (bounds_of T) played)

@@ -10,7 +10,7 @@ use Rattle.sd_model_record.specs.Admin.{AdminFault}
 use Rattle.sd_model_serve.specs.Rounds.{Round}
 use Rattle.sd_model_replay.specs.Replay.{Bounds, Played, history_at, deliveries}
 use Rattle.sd_model_replay.specs.Script.{ScriptCommand, Admin}
-use Rattle.sd_model_record.specs.Backends.{Backend}
+use Rattle.sd_model_outside.specs.Backend.{Backend}
 use Rattle.sd_law_shards.specs.Records.{records}
 use Rattle.sd_model_replay.specs.AccountingTheorem.{output_of, totals_after}
 use Rattle.sd_model_settings.specs.Settings.{Settings}

@@ -1,6 +1,6 @@
 -- What the words of the command line ask for, what the program answers, and what was done by then.
 use Rattle.std.specs.{Prelude.{ℕ, Bool, false, not, ◌==◌, ◌&&◌, nat_le, if◌then◌else◌, List, [], ◌∷◌, length, codes, Option, Some, None, option_map, ◌≡◌, ◌⊎◌, ◌+◌}, Char.{is_ascii_digit}, List.{list_all}, Cmp.Lexicographic.{pointwise}, Str.Parse.{digits_value}}
-use Rattle.sd_model_outside.specs.Outside.{File, Number, Object, Place, HasFailed, HasFailedBehind, given, FailedBehind, opened, HasRead}
+use Rattle.sd_model_outside.specs.{Backend.{Graphite}, Outside.{File, Number, Object, Place, HasFailed, HasFailedBehind, given, FailedBehind, opened, HasRead}}
 use Rattle.sd_model_settings.specs.Settings.{SettingsFlaw, Settings, default_settings}
 use Rattle.sd_model_replay.specs.{AccountingTheorem.{totals_after, Seen, ReplayTrace, AccountingTheorem, End, Complete, Faulted, ReadFailed, WriteFailed, LimitReached, EndsAs}, Script.{ScriptFlaw}}
 use Rattle.sd_model_call.specs.{Drill.{bytes_counted, drill_start, drill_text, drilled}, Opening.{Part, OfSettings, OfScript, World, Opening, IsFlawed, IsAccepted, IsNotOpenedAt, IsPartlyOpened, OnlySettings, replay_openings, settled, longest_file, opened_all}}
@@ -131,7 +131,7 @@ pub record Drilled (n : ℕ) (a : Account) (output : Object) : Type 0 where
   pub force : a.force ≡ default_settings
   pub since : a.start ≡ drill_start n output
   pub played : a.trace.played ≡ drilled n
-  pub counted : a.end.graphite.content ≡ Number (bytes_counted default_settings (drilled n))
+  pub counted : (a.end.backs Graphite).content ≡ Number (bytes_counted default_settings (drilled n))
   pub end : End
   pub ends : EndsAs a.force end a.trace a.start a.end
   pub reported : (end ≡ drill_end n) ⊎ (end ≡ WriteFailed)
@@ -151,9 +151,8 @@ Answers (Some (Serve name)) answer a old new = (a.trace.played ≡ []) × (a.tra
 Answers (Some (Proxy name)) answer a old new = (a.trace.played ≡ []) × (a.trace.ahead ≡ [])
 Answers (Some (Drill n)) answer a old new = (answer ≡ NoMemory) × ((new ≡ old) × IsIdle a new) ⊎ RanDrill n answer a old new
 
--- A call, by its words, what is seen of its objects before and after it, and its answer: whatever it answers, the accounting
--- theorem holds of the records that it executed under the settings in force, between what was seen when they began and when they
--- ended; and the answer has its cause.
+-- A call, by its words, what is seen of its objects before and after it, and its answer, which has its cause: whatever it is, the
+-- accounting theorem holds of the records executed under the settings in force, between what was seen as they began and as they ended.
 pub record Accounts (words : List (List ℕ)) (old new : World) (answer : Answer) : Type 0 where
   pub account : Account
   pub theorem : AccountingTheorem account.force account.trace account.start account.end

@@ -1,8 +1,8 @@
 -- A drill: the made script, executed with no fault by the settings of an empty file, with a count of bytes in Graphite's place.
 use Rattle.std.specs.Prelude.{ℕ, min, List, [], ◌∷◌, ◌++◌, length, map, sum_by, codes, false, if◌then◌else◌}
-use Rattle.sd_model_outside.specs.{Outside.{Left, Number, Object, fresh, last_count}, Uses.{NotUsed, Written}}
+use Rattle.sd_model_outside.specs.{Backend.{Graphite, each_of}, Outside.{Left, Number, Object, fresh, last_count}, Uses.{NotUsed, Written}}
 use Rattle.sd_model_settings.specs.Settings.{default_settings, Settings}
-use Rattle.sd_model_record.specs.{Backends.{Graphite, Console}, Totals.{totals_text}}
+use Rattle.sd_model_record.specs.Totals.{totals_text}
 use Rattle.sd_model_replay.specs.{MadeScript.{made_commands}, Replay.{Played, deliveries, no_marks, targets_of, is_used}, AccountingTheorem.{totals_after, Seen}, Script.{ScriptCommand, Packet, Flush, Admin, script_text, end_word}}
 
 -- a record executed with no fault
@@ -11,7 +11,7 @@ well settings (Packet who moment datagram) = record { command = Packet who momen
 well settings (Flush ts) =
     record {
       command = Flush ts;
-      outcome = record { marks = record { graphite = if is_used settings Graphite then Written else NotUsed; console = if is_used settings Console then Written else NotUsed }; failed = [] };
+      outcome = record { marks = each_of (λ b. if is_used settings b then Written else NotUsed); failed = [] };
     }
 well settings (Admin moment line) = record { command = Admin moment line; outcome = record { marks = no_marks; failed = [] } }
 
@@ -30,4 +30,4 @@ drill_text n = totals_text (totals_after default_settings (drilled n) ++ (codes 
 -- what is seen where a drill of n packets begins: the made script, backends that count their bytes, and no wires
 abbrev pub drill_start : ℕ → Object → Seen
 drill_start n output =
-    record { script = fresh (Left (script_text (made_commands n) ++ end_word)); output = output; graphite = fresh (Number 0); console = fresh (Number 0); wires = [] }
+    record { script = fresh (Left (script_text (made_commands n) ++ end_word)); output = output; backs = λ b. fresh (Number 0); wires = [] }

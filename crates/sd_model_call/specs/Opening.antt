@@ -1,9 +1,8 @@
 -- The objects of a call, and how they are opened and read before anything is executed.
-use Rattle.std.specs.Prelude.{◌≡◌, ◌⊎◌, ℕ, zero, suc, ◌+◌, ◌<◌, Bool, List, [], ◌∷◌, ◌++◌, length, map, fold, set, if◌then◌else◌, Ok, Err}
-use Rattle.sd_model_outside.specs.Outside.{Place, File, Host, Object, HasFailed, HasRead, IsAtEnd, opened, object_at}
+use Rattle.std.specs.Prelude.{◌≡◌, ◌⊎◌, ℕ, zero, suc, ◌+◌, ◌<◌, Bool, List, [], ◌∷◌, ◌++◌, length, map, flat_map, fold, set, if◌then◌else◌, Ok, Err}
+use Rattle.sd_model_outside.specs.{Backend.{Backend, backends, with_one}, Outside.{Place, File, Host, Object, HasFailed, HasRead, IsAtEnd, opened, object_at}}
 use Rattle.sd_model_settings.specs.Settings.{SettingsFlaw, settings, Settings}
 use Rattle.sd_model_replay.specs.{Replay.{targets_of, is_used}, AccountingTheorem.{Seen}}
-use Rattle.sd_model_record.specs.Backends.{Graphite, Console}
 
 -- an object of a call; a receiver's source and a wire by their numbers
 pub data Part : Type 0 where
@@ -11,16 +10,8 @@ pub data Part : Type 0 where
   OfSource : (i : ℕ) → Part
   OfBeat : Part
   OfWire : (i : ℕ) → Part
-  OfGraphite OfConsole OfDoor OfStreams : Part
-
--- Which backends are flagged as used.
-pub record Flags : Type 0 where
-  pub graphite : Bool
-  pub console : Bool
-
--- the flags that settings ask for
-abbrev pub flags_of : Settings → Flags
-flags_of s = record { graphite = is_used s Graphite; console = is_used s Console }
+  OfBackend : (b : Backend) → Part
+  OfDoor OfStreams : Part
 
 -- What is seen of the sources of receivers, the beat, the admin door and the door of streams, which no replay uses.
 pub record Served : Type 0 where
@@ -29,13 +20,13 @@ pub record Served : Type 0 where
   pub door : Object
   pub streams : Object
 
--- What is seen of a call's objects: the settings, what a replay, a server or the proxy uses; which backends are flagged as used.
+-- What is seen of a call's objects: the settings, what a replay, a server or the proxy uses; which backends are to be used.
 pub record World : Type 0 where
   pub settings : Object
   pub seen : Seen
   pub served : Served
   pub probe : Object
-  pub flags : Flags
+  pub uses : Backend → Bool
 
 -- how many bytes a settings file has at most
 abbrev pub longest_file : ℕ
@@ -69,8 +60,7 @@ part_in world OfScript = world.seen.script
 part_in world (OfSource i) = object_at i world.served.sources
 part_in world OfBeat = world.served.beat
 part_in world (OfWire i) = object_at i world.seen.wires
-part_in world OfGraphite = world.seen.graphite
-part_in world OfConsole = world.seen.console
+part_in world (OfBackend b) = world.seen.backs b
 part_in world OfDoor = world.served.door
 part_in world OfStreams = world.served.streams
 
@@ -81,8 +71,7 @@ with_part OfScript o w = record w { seen = record w.seen { script = o } }
 with_part (OfSource i) o w = record w { served = record w.served { sources = set w.served.sources i o } }
 with_part OfBeat o w = record w { served = record w.served { beat = o } }
 with_part (OfWire i) o w = record w { seen = record w.seen { wires = set w.seen.wires i o } }
-with_part OfGraphite o w = record w { seen = record w.seen { graphite = o } }
-with_part OfConsole o w = record w { seen = record w.seen { console = o } }
+with_part (OfBackend b) o w = record w { seen = record w.seen { backs = with_one b o w.seen.backs } }
 with_part OfDoor o w = record w { served = record w.served { door = o } }
 with_part OfStreams o w = record w { served = record w.served { streams = o } }
 
@@ -113,17 +102,18 @@ repeated (suc n) places = places ++ repeated n places
 abbrev pub wire_openings : ℕ → Settings → List Opening
 wire_openings runs s = numbered OfWire 0 (repeated runs (map (λ t. Host t.host t.port) (targets_of s)))
 
--- What the replay of a script opens once the settings are read, in this order: the script; a wire for each target of the repeater;
--- and Graphite and the console, where they are used, at the empty name.
+-- the backends that are used, each at its place
+abbrev pub backend_openings : Settings → (Backend → Place) → List Opening
+backend_openings s places = flat_map (λ b. opening_where (is_used s b) (record { part = OfBackend b; place = places b })) backends
+
+-- What a replay opens once the settings are read, in order: its script; a wire for each target; each used backend, at the empty name.
 abbrev pub replay_openings : List ℕ → Settings → List Opening
 replay_openings script s = record { part = OfScript; place = File script }
-    ∷ (wire_openings 1 s
-    ++ (opening_where (is_used s Graphite) (record { part = OfGraphite; place = File [] })
-    ++ opening_where (is_used s Console) (record { part = OfConsole; place = File [] })))
+    ∷ (wire_openings 1 s ++ backend_openings s (λ b. File []))
 
--- A world once settings were read and accepted with these values, and the flags say which backends they name.
+-- A world once settings were read and accepted with these values, and they say which backends are to be used.
 abbrev pub settled : Settings → Object → World → World
-settled values settings w = record w { settings = settings; flags = flags_of values }
+settled values settings w = record w { settings = settings; uses = is_used values }
 
 -- Some of these parts were opened, in their order, and nothing else that is seen changed.
 pub record IsPartlyOpened (parts : List Opening) (old new : World) : Type 0 where

@@ -1,13 +1,13 @@
 -- What a server opens and begins with, what the program answers where it is asked to serve, and what was done by then.
 use Rattle.std.specs.{Prelude.{◌≡◌, ◌⊎◌, ℕ, ◌+◌, nat_lt, Bool, true, false, List, [], ◌∷◌, ◌++◌, length, codes, map, min, if◌then◌else◌, Option, Some, ⊤}, List.{list_any}}
-use Rattle.sd_model_outside.specs.{Outside.{File, Host, Datagrams, Interval, Object, last_count}, Uses.{missed}}
+use Rattle.sd_model_outside.specs.{Backend.{Backend, Graphite, backends, backend_name, at_backend, each_of}, Outside.{Place, File, Host, Datagrams, Interval, Object, last_count}, Uses.{missed}}
 use Rattle.sd_model_settings.specs.Settings.{plan_of, names_of, Settings}
 use Rattle.sd_model_shard.specs.History.{state_after}
-use Rattle.sd_model_record.specs.{Backends.{Backend, Graphite, Console}, Totals.{Total, totals_of, totals_text}}
+use Rattle.sd_model_record.specs.{Totals.{Total, totals_of, totals_text}}
 use Rattle.sd_model_serve.specs.Receiving.{LoopEnd, Failed, LimitReached, most_turns}
 use Rattle.sd_model_run.specs.Run.{ServerTrace, RunSettings, Objects, ServerTheorem}
 use Rattle.sd_model_replay.specs.{Replay.{is_used, limits_of, policy_of, targets_of}, AccountingTheorem.{summed}}
-use Rattle.sd_model_call.specs.{Call.{Form, Serve, Answer, Done, NotRead, Worn, NotBegun, NotTaken, WritesTotals}, Opening.{Opening, OfSource, OfBeat, OfGraphite, OfConsole, OfDoor, OfStreams, World, IsAccepted, flags_of, numbered, opened_all, opening_where, repeated, settled, wire_openings}}
+use Rattle.sd_model_call.specs.{Call.{Form, Serve, Answer, Done, NotRead, Worn, NotBegun, NotTaken, WritesTotals}, Opening.{Opening, OfSource, OfBeat, OfDoor, OfStreams, World, IsAccepted, backend_openings, numbered, opened_all, opening_where, repeated, settled, wire_openings}}
 
 -- a source for each receiver, at the address that the server listens at, with the room that the settings ask for
 abbrev pub source_openings : Settings → List Opening
@@ -28,15 +28,18 @@ door_openings s =
     ++ record { part = OfDoor; place = Host s.addresses.mgmt_address s.server.mgmt_port }
     ∷ []
 
--- What a server opens once the settings are read, in this order: the sources; a run of wires for each receiver; Graphite and the
--- console, where they are used; and the doors, of which the admin door comes last.
+-- where a server opens a backend: Graphite at its address, and each other one at the empty name
+abbrev pub backend_place : Settings → Backend → Place
+backend_place s Graphite = Host s.addresses.graphite_host s.addresses.graphite_port
+backend_place s b = File []
+
+-- What a server opens, in order: the sources; a run of wires for each receiver; each used backend; the doors, the admin door last.
 abbrev pub server_openings : Settings → List Opening
 server_openings s =
     source_openings s
     ++ (wire_openings s.sizes.receivers s
-    ++ (opening_where (is_used s Graphite) (record { part = OfGraphite; place = Host s.addresses.graphite_host s.addresses.graphite_port })
-    ++ (opening_where (is_used s Console) (record { part = OfConsole; place = File [] })
-    ++ door_openings s)))
+    ++ (backend_openings s (backend_place s)
+    ++ door_openings s))
 
 -- what a server goes by, as a file's settings say it
 abbrev pub run_settings_of : Settings → RunSettings
@@ -54,14 +57,9 @@ run_settings_of s =
       run_flushes = s.sizes.run_flushes;
     }
 
--- what is seen of a backend
-abbrev pub back_in : World → Backend → Object
-back_in w Graphite = w.seen.graphite
-back_in w Console = w.seen.console
-
 -- what is seen of the objects that a server's workers use
 abbrev pub objects_in : World → Objects
-objects_in w = record { sources = w.served.sources; wires = w.seen.wires; beat = w.served.beat; backs = back_in w; door = w.served.door; streams = w.served.streams }
+objects_in w = record { sources = w.served.sources; wires = w.seen.wires; beat = w.served.beat; backs = w.seen.backs; door = w.served.door; streams = w.served.streams }
 
 -- once these parts were opened, in their order, and then the beat was started, once, with this interval
 abbrev pub begun_with : List Opening → Interval → World → World
@@ -92,10 +90,9 @@ ends_answer receivers ticker others = by_receivers 0 receivers (by_beat ticker (
 abbrev pub run_totals : Settings → ServerTrace → List Total
 run_totals s c =
     totals_of (summed s.sizes.shards (λ i. state_after (limits_of s) (policy_of s) (c.histories i))) (record c.desk.facts {
-      graphite_faults = c.desk.facts.graphite_faults + min (missed (c.outlet_traces Graphite).queued) last_count;
-      console_faults = c.desk.facts.console_faults + min (missed (c.outlet_traces Console).queued) last_count;
+      faults = each_of (λ b. at_backend c.desk.facts.faults b + min (missed (c.outlet_traces b).queued) last_count);
     })
-    ++ (if nat_lt 0 s.transport.outlets then (codes "graphite_skipped", (c.outlet_traces Graphite).skipped) ∷ (codes "console_skipped", (c.outlet_traces Console).skipped) ∷ [] else [])
+    ++ (if nat_lt 0 s.transport.outlets then map (λ b. (backend_name b ++ codes "_skipped", (c.outlet_traces b).skipped)) backends else [])
 
 -- A server by accepted settings was begun, and the accounting theorem holds of its trace. Its totals were written, and the answer
 -- says how its workers ended, or that the output failed. Nothing else that is seen changed.
@@ -108,7 +105,7 @@ pub record HasServed (name : List ℕ) (says : ℕ → Type 0) (answer : Answer)
   pub written : WritesTotals (totals_text (run_totals values trace)) (ends_answer (map (λ r. r.ended) trace.receiver_traces) trace.flusher_ended (trace.keeper_ended ∷ map (λ l. l.ended) trace.line_traces)) answer old.seen.output new.seen.output
   pub script : new.seen.script ≡ old.seen.script
   pub probe : new.probe ≡ old.probe
-  pub flags : new.flags ≡ flags_of values
+  pub uses : new.uses ≡ is_used values
   pub kept : new.settings ≡ settings
 
 -- The account of a call that is asked to serve by this settings file, over a clock that may say these moments.

@@ -71,8 +71,7 @@ abbrev pub AreReported : (from : ℕ) → List Relay → List SetStep → Type 0
 AreReported from [] steps = ⊤
 AreReported from (r ∷ relays) steps = (reported_to from steps ≡ map (λ x. x.up) r.reads) × AreReported (from + 1) relays steps
 
--- What is seen of the objects that a proxy uses: the sources of its receivers; their wires, and after them those of its reader of
--- lines; the door of that; its beat; its probe; and the door of its port.
+-- What is seen of a proxy's objects: its receivers' sources; their wires, then its line reader's; the door of that; beat, probe, port.
 pub record ProxyObjects : Type 0 where
   pub sources : List Object
   pub wires : List Object

@@ -1,3 +1,4 @@
+pub mod BackendLemmas
 pub mod DeliveryLemmas
 pub mod LineWrites
 pub mod OutsideLemmas

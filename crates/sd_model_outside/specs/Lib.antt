@@ -1,2 +1,3 @@
+pub mod Backend
 pub mod Outside
 pub mod Uses

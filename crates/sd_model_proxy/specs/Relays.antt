@@ -24,9 +24,8 @@ pub record HasForwarded (most : ℕ) (nodes : List Node) (r : Relay) (wires wire
   pub each : length wires ≡ length nodes
   pub sends : AfterSendsOn (λ place. map (λ b. record { packet = joined b.lines; is_failed = b.is_failed }) (r.batched place)) wires wires_now
 
--- A receiver's datagrams are those that its source has given since, in order, and their lines, datagram by datagram, are what it
--- read and sent on its wires. It ended so once its source had taken so many turns, counted up to the last count; no flushes end it.
--- Nothing else of the source changed.
+-- A receiver's datagrams are those that its source, which is else as it was, has given since, in order, and their lines are what it read
+-- and sent on its wires. It ended so once its source had taken so many turns, counted up to the last count; no flushes end it.
 pub record IsRelay (most : ℕ) (nodes : List Node) (r : Relay) (source source_now : Object) (wires wires_now : List Object) : Type 0 where
   pub given : source.content ≡ with_datagrams r.datagrams source_now.content
   pub read : AllZip (λ datagram r. (r.lines ≡ lines datagram) × (r.long ≡ 0)) r.datagrams r.reads

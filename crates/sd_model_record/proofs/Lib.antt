@@ -1,5 +1,4 @@
 pub mod Short
-pub mod CountLemmas
 pub mod OrderLemmas
 pub mod SentLemmas
 pub mod WireLemmas

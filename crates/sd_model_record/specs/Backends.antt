@@ -2,9 +2,9 @@
 -- second (Graphite's plaintext protocol), under StatsD's names, the legacy ones or those of its namespace (docs/namespacing.md);
 -- the console's has the flush, its rows, the server's own counts, and the end.
 use Rattle.std.specs.Prelude.{ℕ, List, ℤ, [], ◌∷◌, ◌++◌, length, flat_map, if◌then◌else◌, codes, decimal}
-use Rattle.sd_model_outside.specs.Uses.{Mark}
+use Rattle.sd_model_outside.specs.Backend.{Backend, Graphite, Console}
 use Rattle.sd_model_settings.specs.Settings.{Names}
-use Rattle.sd_model_record.specs.{Record.{Record, Row, CounterRow, TimerRow, GaugeRow, SetRow, Figure, whole_number, sent_figures}, Desk.{Marks}}
+use Rattle.sd_model_record.specs.{Record.{Record, Row, CounterRow, TimerRow, GaugeRow, SetRow, Figure, whole_number, sent_figures}}
 use Rattle.sd_model_text.specs.Numbers.{number_text, per_second}
 
 -- the lines of a row, by the names of the classes of timers' lines that are chosen
@@ -85,16 +85,7 @@ tail_lines names r =
 abbrev pub graphite_text : Names → Record → List ℕ
 graphite_text names r = flat_map (row_lines names r.calculated r.ts) r.rows ++ tail_lines names r
 
--- a backend
-pub data Backend : Type 0 where
-  Graphite Console : Backend
-
 -- the text of a flush's record for a backend, with Graphite's names
 abbrev pub text_of : Names → Backend → Record → List ℕ
 text_of names Graphite r = graphite_text names r
 text_of names Console r = console_text r
-
--- how it took part in a flush
-abbrev pub mark_of : Backend → Marks → Mark
-mark_of Graphite marks = marks.graphite
-mark_of Console marks = marks.console

@@ -1,6 +1,6 @@
 -- The desk: what the server counts of itself.
 use Rattle.std.specs.Prelude.{◌≡◌, ℕ, ◌+◌, ◌<◌, min, Bool, true}
-use Rattle.sd_model_outside.specs.Uses.{Mark}
+use Rattle.sd_model_outside.specs.{Backend.{PerBackend, each_of}, Uses.{Mark}}
 use Rattle.sd_model_record.specs.Record.{Tally}
 use Rattle.sd_model_shard.specs.Shard.{last_number}
 
@@ -22,10 +22,9 @@ add_tally a b =
       dropped = counted a.dropped b.dropped;
     }
 
--- the marks of a flush
-pub record Marks : Type 0 where
-  pub graphite : Mark
-  pub console : Mark
+-- how each backend took part in a flush
+abbrev pub Marks : Type 0
+Marks = PerBackend Mark
 
 -- What a desk tells of itself: when the server started, when the last datagram came, and whether the server is well; and since the
 -- start the totals, the flushes, and the faults of each backend, of the repeater and of admin sessions.
@@ -35,8 +34,7 @@ pub record Facts : Type 0 where
   pub totals : Tally
   pub up : Bool
   pub rounds : ℕ
-  pub graphite_faults : ℕ
-  pub console_faults : ℕ
+  pub faults : PerBackend ℕ
   pub repeater_faults : ℕ
   pub admin_faults : ℕ
 
@@ -48,7 +46,7 @@ pub record Desk : Type 0 where
 
 -- its desk
 abbrev pub new_desk : ℕ → Desk
-new_desk start = record { facts = record { start = start; last = start; totals = no_tally; up = true; rounds = 0; graphite_faults = 0; console_faults = 0; repeater_faults = 0; admin_faults = 0 }; tally = no_tally; taken_so_far = no_tally }
+new_desk start = record { facts = record { start = start; last = start; totals = no_tally; up = true; rounds = 0; faults = each_of (λ b. 0); repeater_faults = 0; admin_faults = 0 }; tally = no_tally; taken_so_far = no_tally }
 
 -- a total that hasn't reached the last count is what was taken and what was counted since
 abbrev pub IsWhole : ℕ → ℕ → ℕ → Type 0

@@ -1,6 +1,6 @@
 -- The history of the desk: who asked what of it, and what it answered.
+use Rattle.sd_model_outside.specs.{Backend.{at_backend, each_of}, Uses.{fault_of}}
 use Rattle.std.specs.Prelude.{◌≡◌, ⊤, ℕ, Bool, List, [], ◌∷◌, fold, map}
-use Rattle.sd_model_outside.specs.Uses.{fault_of}
 use Rattle.sd_model_shard.specs.History.{part_of}
 use Rattle.sd_model_record.specs.{Record.{Tally}, Desk.{Desk, Facts, Marks, new_desk, add_tally, no_tally, counted}}
 
@@ -30,8 +30,7 @@ desk_step d (Mark marks) =
     record d {
       facts = record d.facts {
         rounds = counted d.facts.rounds 1;
-        graphite_faults = counted d.facts.graphite_faults (fault_of marks.graphite);
-        console_faults = counted d.facts.console_faults (fault_of marks.console);
+        faults = each_of (λ b. counted (at_backend d.facts.faults b) (fault_of (at_backend marks b)));
       };
     }
 desk_step d AdminFault = record d { facts = record d.facts { admin_faults = counted d.facts.admin_faults 1 } }

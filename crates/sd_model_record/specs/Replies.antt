@@ -8,9 +8,8 @@ use Rattle.sd_model_settings.specs.Settings as file
 use Rattle.sd_model_shard.specs.Shard as shard
 use Rattle.sd_model_record.specs.Admin as admin
 
--- What a reply tells: the facts of the desk at a moment; these with the numbers of each shard, in order, where backends have
--- outlets or none; the rows of a kind; the keys that a name of a deletion deleted; that a deletion has no further name; the health;
--- the settings; why a line is no command.
+-- What a reply tells: the desk's facts at a moment; these with the numbers of each shard, in order, where backends have outlets or none;
+-- a kind's rows; the keys that a name of a deletion deleted, or that it has no further name; health; settings; why a line is no command.
 pub data AdminReply : Type 0 where
   Stats : (facts : Facts) (now : ℕ) → AdminReply
   Totals : (outlets : Bool) (facts : Facts) (shards : List Numbers) → AdminReply

@@ -1,5 +1,6 @@
 -- Totals: what was counted, by name, and the text of that; and the desk's numbers that only grow.
-use Rattle.std.specs.{Prelude.{ℕ, Bool, not, ◌||◌, if◌then◌else◌, List, [], ◌∷◌, ◌++◌, codes, decimal, filter, flat_map, ◌≡◌, ◌⊎◌, ⊤}, Str.{bytes_eq}}
+use Rattle.std.specs.{Prelude.{ℕ, Bool, not, if◌then◌else◌, List, [], ◌∷◌, ◌++◌, codes, decimal, filter, flat_map, map, ◌≡◌, ◌⊎◌, ⊤}, List.{list_any}, Str.{bytes_eq}}
+use Rattle.sd_model_outside.specs.Backend.{Backend, backends, backend_name, at_backend}
 use Rattle.sd_model_shard.specs.Shard.{Numbers}
 use Rattle.sd_model_record.specs.{Desk.{Facts, Desk}, DeskHistory.{DeskCall, AdminFault, Look}}
 
@@ -20,6 +21,10 @@ abbrev pub number_in : List Total → List ℕ → ℕ
 number_in [] name = 0
 number_in (t ∷ totals) name = if bytes_eq t.0 name then t.1 else number_in totals name
 
+-- the name of the count of a backend's faults
+abbrev pub faults_name : Backend → List ℕ
+faults_name b = backend_name b ++ codes "_faults"
+
 -- the totals of shards whose numbers are added up so, and of a desk with these facts
 abbrev pub totals_of : ((Numbers → ℕ) → ℕ) → Facts → List Total
 totals_of all facts =
@@ -32,22 +37,21 @@ totals_of all facts =
     ∷ (codes "held", all (λ n. n.held))
     ∷ (codes "deleted", all (λ n. n.deleted))
     ∷ (codes "rounds", facts.rounds)
-    ∷ (codes "graphite_faults", facts.graphite_faults)
-    ∷ (codes "console_faults", facts.console_faults)
-    ∷ (codes "repeater_faults", facts.repeater_faults)
+    ∷ (map (λ b. (faults_name b, at_backend facts.faults b)) backends
+    ++ (codes "repeater_faults", facts.repeater_faults)
     ∷ (codes "admin_faults", facts.admin_faults)
-    ∷ []
+    ∷ [])
 
 -- the totals that are known before the end: all but the faults of backends with outlets, which their workers tell at the end
 abbrev pub known_before_end : (outlets : Bool) → List Total → List Total
-known_before_end outlets totals = if outlets then filter (λ t. not (bytes_eq t.0 (codes "graphite_faults") || bytes_eq t.0 (codes "console_faults"))) totals else totals
+known_before_end outlets totals = if outlets then filter (λ t. not (list_any (λ b. bytes_eq t.0 (faults_name b)) backends)) totals else totals
 
--- the numbers of a desk, in order: the four totals, the four sums of the tallies taken, the flushes, and the four counts of faults
+-- the numbers of a desk, in order: the four totals, the four sums of the tallies taken, the flushes, and the counts of faults
 abbrev pub numbers_in : Desk → List ℕ
 numbers_in d =
     d.facts.totals.packets ∷ d.facts.totals.lines ∷ d.facts.totals.bad ∷ d.facts.totals.dropped
     ∷ d.taken_so_far.packets ∷ d.taken_so_far.lines ∷ d.taken_so_far.bad ∷ d.taken_so_far.dropped
-    ∷ d.facts.rounds ∷ d.facts.graphite_faults ∷ d.facts.console_faults ∷ d.facts.repeater_faults ∷ d.facts.admin_faults ∷ []
+    ∷ d.facts.rounds ∷ (map (at_backend d.facts.faults) backends ++ d.facts.repeater_faults ∷ d.facts.admin_faults ∷ [])
 
 -- a call asks for the facts, or counts an admin session that failed
 abbrev pub IsKeeperCall : DeskCall → Type 0

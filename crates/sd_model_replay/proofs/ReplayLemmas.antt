@@ -8,7 +8,7 @@ use Rattle.std.proofs.lemmas.List.Elements.{filter_map-append}
 use Rattle.std.proofs.lemmas.List.Sums.{fold_push}
 use Rattle.sd_model_serve.specs.Rounds.{Round, round_text}
 use Rattle.sd_model_outside.specs.Uses.{Delivery}
-use Rattle.sd_model_record.specs.Backends.{Backend, mark_of}
+use Rattle.sd_model_outside.specs.Backend.{Backend, at_backend}
 use Rattle.sd_model_replay.specs.Replay.{Bounds, bounds_of, Played, Run, first_run, play, run_of, Moment, moments, form_of, round_by, rounds, deliveries, sending_by}
 use Rattle.sd_model_replay.specs.Script.{ScriptCommand, spelled, script_text}
 use Rattle.sd_model_replay.specs.AccountingTheorem.{output_in, output_of}
@@ -50,7 +50,7 @@ rounds-push bounds played p =
 
 -- what a round has for a backend
 abbrev pub delivery_of : Settings → Backend → Round → Delivery
-delivery_of settings back r = record { text = round_text (form_of settings) back r; mark = mark_of back r.marks }
+delivery_of settings back r = record { text = round_text (form_of settings) back r; mark = at_backend r.marks back }
 
 pub deliveries-push : (settings : Settings) (back : Backend) (played : List Played) (p : Played)
     → deliveries settings back (played ++ p ∷ []) ≡ deliveries settings back played ++ map (delivery_of settings back) (cons_option (round_at (run_before (bounds_of settings) played p) p) [])

@@ -1,11 +1,11 @@
 -- The accounting theorem: where each good sample is, what each record has of its own journal, what was written; how a replay ends.
 use Rattle.std.specs.{Prelude.{ℕ, List, sum_by, false, [], ◌∷◌, flat_map, ◌≡◌, ◌<◌, ◌++◌, map, ◌⊎◌, min, length, ⊤, filter_map}, List.{range_with_len, AllByRecursion}}
 use Rattle.sd_model_shard.specs.{Shard.{State, Numbers, numbers_of, Event, step}, History.{part_of, state_after, arrivals}}
-use Rattle.sd_model_record.specs.{Totals.{Total, totals_of, totals_text}, Replies.{admin_events, replies_by, replies_text, AdminReply}, Backends.{Backend, Graphite, Console}}
+use Rattle.sd_model_record.specs.{Totals.{Total, totals_of, totals_text}, Replies.{admin_events, replies_by, replies_text, AdminReply}}
 use Rattle.sd_model_replay.specs.{Replay.{bounds_of, Played, first_run, run_of, Bounds, Run, moments, limits_of, policy_of, IsOutcome, home_of, form_of, history_at, rounds, deliveries, sending_by, samples_of_record}, Script.{ScriptCommand, Admin, script_text, IsLegal, BeginsEnd, ScriptFlaw, Next, Faulty, Begins, IsUndecided}}
 use Rattle.sd_model_settings.specs.Settings.{Settings}
 use Rattle.sd_model_serve.specs.{Rounds.{AreAccounted}, Receiving.{most_turns, Broadcast, replies_at}}
-use Rattle.sd_model_outside.specs.{Outside.{Object, Reads, Used, HasFailedBehind, Rose, given, last_count}, Uses.{AfterDeliveries, AreRepeated}}
+use Rattle.sd_model_outside.specs.{Backend.{Backend}, Outside.{Object, Reads, Used, HasFailedBehind, Rose, given, last_count}, Uses.{AfterDeliveries, AreRepeated}}
 use Rattle.sd_model_record.specs.Admin as admin
 
 -- a number of so many shards in these states, added up
@@ -45,14 +45,8 @@ output_of settings played = flat_map (λ m. output_in settings m.before m.played
 pub record Seen : Type 0 where
   pub script : Object
   pub output : Object
-  pub graphite : Object
-  pub console : Object
+  pub backs : Backend → Object
   pub wires : List Object
-
--- what is seen of a backend
-abbrev pub seen_at : Backend → Seen → Object
-seen_at Graphite seen = seen.graphite
-seen_at Console seen = seen.console
 
 -- What was executed of a script: its records, with what the outside did to each; and the bytes that were read to tell what is next.
 pub record ReplayTrace : Type 0 where
@@ -78,7 +72,7 @@ pub record AccountingTheorem (settings : Settings) (trace : ReplayTrace) (old ne
   -- a backend was given just the text of each flush's record, in order, begun and ended, where the flush is marked as written
   -- there; where it is marked as failed, its count of faults rose, and it was given nothing, or a prefix of the text, which isn't
   -- ended; and a backend that isn't used is untouched
-  pub texts : (back : Backend) → AfterDeliveries (deliveries settings back trace.played) (seen_at back old) (seen_at back new)
+  pub texts : (back : Backend) → AfterDeliveries (deliveries settings back trace.played) (old.backs back) (new.backs back)
   -- each packet was sent as it came on the wires of the targets, in order: it is at the end of those whose send didn't fail, and
   -- each other one's count of faults rose; wires without a target are untouched
   pub sends : AreRepeated (filter_map (λ p. sending_by p.command p.outcome) trace.played) old.wires new.wires

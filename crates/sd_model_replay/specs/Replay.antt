@@ -2,9 +2,9 @@
 use Rattle.std.specs.{Prelude.{ℕ, Bool, if◌then◌else◌, List, [], codes, ◌≡◌, ◌∷◌, length, map, fold, flat_map, filter_map, sum_by, Option, Some, None, Result, Ok}, List.{list_any, range_with_len}, Str.{bytes_eq}}
 use Rattle.sd_model_settings.specs.{Settings.{Settings, plan_of, names_of}, Entries.{Target}}
 use Rattle.sd_model_shard.specs.{Shard.{Limits, Policy, State, empty_state, Submit, Swap, Reply, table_of}, History.{Asked, History, after_all, answered, part_of, Arrival, dropped_in}}
-use Rattle.sd_model_record.specs.{Backends.{Backend, Graphite, Console, mark_of}, Record.{Tally}, Admin.{AdminFault}, Desk.{Desk, new_desk, Marks}, DeskHistory.{desk_step, Add, Take, SetHealth, Mark, RepeaterFaults}, Replies.{admin_events, health_after}}
+use Rattle.sd_model_record.specs.{Record.{Tally}, Admin.{AdminFault}, Desk.{Desk, new_desk, Marks}, DeskHistory.{desk_step, Add, Take, SetHealth, Mark, RepeaterFaults}, Replies.{admin_events, health_after}}
 use Rattle.sd_model_text.specs.{Names.{shard}, Lines.{Sample, samples_of, pieces, bad_of}}
-use Rattle.sd_model_outside.specs.Uses.{Sending, failures, NotUsed, Delivery, FitsUse}
+use Rattle.sd_model_outside.specs.{Backend.{Backend, backend_name, at_backend, each_of}, Uses.{Sending, failures, NotUsed, Delivery, FitsUse}}
 use Rattle.sd_model_serve.specs.{Receiving.{flusher, administrator}, Rounds.{RecordForm, Round, round_deliveries}}
 use Rattle.sd_model_replay.specs.Script.{ScriptCommand, Packet, Flush, Admin}
 use Rattle.sd_model_record.specs.Admin as admin
@@ -40,8 +40,7 @@ names_backend name s = list_any (bytes_eq name) s.addresses.backends
 
 -- whether a backend is used
 abbrev pub is_used : Settings → Backend → Bool
-is_used s Graphite = names_backend (codes "graphite") s
-is_used s Console = names_backend (codes "console") s
+is_used s b = names_backend (backend_name b) s
 
 -- the targets of the repeater, where it is named
 abbrev pub targets_of : Settings → List Target
@@ -54,13 +53,13 @@ pub record Outcome : Type 0 where
 
 -- no backend took part
 abbrev pub no_marks : Marks
-no_marks = record { graphite = NotUsed; console = NotUsed }
+no_marks = each_of (λ b. NotUsed)
 
 -- what the outside may do to a record: at a packet there is a send to each target, and no backend takes part; at a flush just those
 -- backends take part that the settings name, and nothing is sent; an admin command is no matter of theirs
 abbrev pub IsOutcome : Settings → ScriptCommand → Outcome → Type 0
 IsOutcome settings (Packet who moment datagram) outcome = (outcome.marks ≡ no_marks) × (length outcome.failed ≡ length (targets_of settings))
-IsOutcome settings (Flush ts) outcome = (outcome.failed ≡ []) × ((back : Backend) → FitsUse (is_used settings back) (mark_of back outcome.marks))
+IsOutcome settings (Flush ts) outcome = (outcome.failed ≡ []) × ((back : Backend) → FitsUse (is_used settings back) (at_backend outcome.marks back))
 IsOutcome settings (Admin moment line) outcome = (outcome.marks ≡ no_marks) × (outcome.failed ≡ [])
 
 -- A record of a script as it was executed.

@@ -1,7 +1,7 @@
 -- A run of the server: what it goes by, what its callers did, what it counts, and what is seen of the objects that they use.
 use Rattle.std.specs.{Prelude.{◌≡◌, ℕ, ◌+◌, ◌<◌, ◌≤◌, Bool, true, false, List, [], ◌∷◌, length, map, Some, slice_get, min, max, ◌++◌, flat_map, sum_by, nat_lt, not, ◌&&◌}, List.{AllByRecursion, AllZip}, Option.{option_map_or}}
-use Rattle.sd_model_outside.specs.{Uses.{AfterDeliveries, fault_of, with_ticks, failures}, Outside.{Object, last_count}}
-use Rattle.sd_model_record.specs.{Backends.{Backend, Graphite, Console, mark_of}, DeskHistory.{DeskHistory, calls_by, desk_after, AnswersFrom}, Totals.{Among, IsKeeperCall, numbers_in}, Desk.{IsBalanced, Desk, new_desk}}
+use Rattle.sd_model_outside.specs.{Backend.{Backend, backends, at_backend}, Uses.{AfterDeliveries, fault_of, with_ticks, failures}, Outside.{Object, last_count}}
+use Rattle.sd_model_record.specs.{DeskHistory.{DeskHistory, calls_by, desk_after, AnswersFrom}, Totals.{Among, IsKeeperCall, numbers_in}, Desk.{IsBalanced, Desk, new_desk}}
 use Rattle.sd_model_serve.specs.{Rounds.{AreAccounted, MarksFit, Round, last_second, round_calls, round_text, RecordForm, round_deliveries, Ran, OutletRoom, OutletTrace, IsOutletTrace}, Sessions.{ServesDoor, Visit, faults_among, IsVisitOf, asked_by, called_in, Dialogue, Exchange}, Receiving.{LoopEnd, LimitReached, EndsReceiver, EndsFlusher, EndsKeeper, most_turns, CountsDatagrams, HaveRun, PassesOn, summed_in, ReceiverTrace}}
 use Rattle.sd_model_stream.specs.Streams.{CountsReads, any_reached_limit, lines_in, bad_of_line, pieces_of_line, LineTrace, samples_of_line, IsStreamOf}
 use Rattle.sd_model_text.specs.Lines.{Sample, pieces, bad_of, samples_of}
@@ -63,11 +63,10 @@ counts_in shards c =
     ∷ sum_by (λ r. r.tally.bad) (rounds_in c)
     ∷ sum_by (λ r. r.tally.dropped) (rounds_in c)
     ∷ length (rounds_in c)
-    ∷ sum_by (λ r. fault_of (mark_of Graphite r.marks)) (rounds_in c)
-    ∷ sum_by (λ r. fault_of (mark_of Console r.marks)) (rounds_in c)
-    ∷ sum_by (λ r. sum_by (λ s. failures s.failed) r.sendings) c.receiver_traces
+    ∷ (map (λ b. sum_by (λ r. fault_of (at_backend r.marks b)) (rounds_in c)) backends
+    ++ sum_by (λ r. sum_by (λ s. failures s.failed) r.sendings) c.receiver_traces
     ∷ (c.failures + faults_among c.visits + sum_by (λ l. l.failures + faults_among l.visits) c.line_traces)
-    ∷ []
+    ∷ [])
 
 -- What is seen of the objects that the workers use: sources, wires, beat, backends, the admin door and the door of streams.
 pub record Objects : Type 0 where
@@ -128,8 +127,7 @@ AreLineTraces asked made true (l ∷ k ∷ line_traces) door door_now = ⊥
 -- The desk's one history in a run. It is legal from the desk's start on, and leaves the desk. Its callers are those who submit
 -- samples, by their numbers from 0 on, then the flusher, then the keeper of the admin door: what each receiver and the keeper of
 -- lines called counts just what it read, at moments that the clock may say; the flusher took the tally and left the marks of each
--- round; the keeper of the admin door asked for the facts of each line's replies, and set the health as the lines say; each in its
--- order, and nobody else called anything.
+-- round; the keeper of the admin door asked for the facts of each line's replies, and set the health as they say; each in its order.
 pub record HasOneDesk (says : ℕ → Type 0) (c : ServerTrace) : Type 0 where
   pub legal : AnswersFrom (new_desk c.desk.facts.start) c.calls
   pub left : c.desk ≡ desk_after c.desk.facts.start c.calls

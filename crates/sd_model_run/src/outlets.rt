@@ -1,5 +1,5 @@
 ghost use Rattle.std.specs.Prelude.{◌≡◌, ℕ, ◌+◌, ◌<◌, ◌≤◌, List, ◌∷◌, length, map};
-ghost use Rattle.sd_model_record.specs.Backends.{Backend};
+ghost use Rattle.sd_model_outside.specs.Backend.{Backend};
 ghost use Rattle.sd_model_serve.specs.Rounds.{RecordForm, round_text, OutletRoom, OutletTrace, WentThrough};
 ghost use Rattle.sd_model_run.specs.Run.{ServerTrace, rounds_in};
 

@@ -134,8 +134,7 @@ pub record ReceiverTrace : Type 0 where
   pub sendings : List Sending
   pub ended : LoopEnd
 
--- The first of receivers did what is told of it with the first source and the first so many wires, the next one with the next, and
--- so on; the sources and the wires after theirs are as they were.
+-- Each receiver, in order, did what is told of it with the next source and the next so many wires; all after theirs are as they were.
 abbrev pub HaveRun : {R : Type 0} → (R → (source source_now : Object) → (wires wires_now : List Object) → Type 0) → (run : ℕ) → List R → (sources sources_now wires wires_now : List Object) → Type 0
 HaveRun Did run [] sources sources_now wires wires_now = (sources_now ≡ sources) × (wires_now ≡ wires)
 HaveRun Did run (r ∷ rs) [] sources_now wires wires_now = ⊥

@@ -1,10 +1,10 @@
 -- The rounds of a flusher: what each took out of the shards and the desk, and what it wrote; the account of histories and rounds; the
 -- history of each shard that a run leaves, from the side of its callers; and what goes to a backend through an outlet.
 use Rattle.std.specs.{Prelude.{◌≡◌, ◌⊎◌, ℕ, ◌+◌, ◌^◌, Bool, true, false, Option, Some, None, List, [], ◌∷◌, map, get_or, ◌<◌, ◌≢◌, ◌≤◌, length, ⊤}, FinMap.{empty}, List.{range_with_len, AllByRecursion}}
-use Rattle.sd_model_outside.specs.Uses.{Delivery, FitsUse}
+use Rattle.sd_model_outside.specs.{Backend.{Backend, at_backend}, Uses.{Delivery, FitsUse}}
 use Rattle.sd_model_settings.specs.Settings.{Plan, Names}
 use Rattle.sd_model_shard.specs.{Shard.{Table, Swap, Swapped, Limits, Policy}, History.{History, Legal, state_after, AreDocumented, Flushed, flushes, RowsAreKept, tables, Places}}
-use Rattle.sd_model_record.specs.{Record.{Tally, Record, record_of, documented_rows}, Desk.{Marks}, DeskHistory.{DeskCall, Take, Mark, Took, Done}, Backends.{Backend, mark_of, text_of}}
+use Rattle.sd_model_record.specs.{Record.{Tally, Record, record_of, documented_rows}, Desk.{Marks}, DeskHistory.{DeskCall, Take, Mark, Took, Done}, Backends.{text_of}}
 use Rattle.sd_model_serve.specs.Receiving.{flusher, administrator, acts_by, asks, events_of, Broadcast, acts_in}
 use Rattle.sd_model_text.specs.Lines.{Sample}
 
@@ -31,7 +31,7 @@ round_text form back r = text_of form.names back (round_record form r)
 
 -- what rounds have for a backend: the text of each record, with its mark
 abbrev pub round_deliveries : RecordForm → Backend → List Round → List Delivery
-round_deliveries form back rounds = map (λ r. record { text = round_text form back r; mark = mark_of back r.marks }) rounds
+round_deliveries form back rounds = map (λ r. record { text = round_text form back r; mark = at_backend r.marks back }) rounds
 
 -- the swaps that rounds made of shard i
 abbrev pub swaps_at : List Round → ℕ → History
@@ -47,7 +47,7 @@ round_calls r = record { event = Take; answer = Took r.tally } ∷ record { even
 
 -- a backend's marks say whether it is used
 abbrev pub MarksFit : (Backend → Bool) → Round → Type 0
-MarksFit uses r = (back : Backend) → FitsUse (uses back) (mark_of back r.marks)
+MarksFit uses r = (back : Backend) → FitsUse (uses back) (at_backend r.marks back)
 
 -- the second of the last of rounds, if there is one
 abbrev pub last_second : List Round → Option ℕ
@@ -74,8 +74,7 @@ pub record AreAccounted (limits : Limits) (policy : Policy) (form : RecordForm) 
 
 -- The history of shard i of so many that a run left: it is legal; each receiver submitted the samples that it brought, those with
 -- keys of that shard, in order; the flusher swapped once for each round, in order, and got the round's table; the admin sessions
--- asked for what they broadcast, in order, and got those replies; and nobody else asked for anything. So the tables that the
--- history hands out are those of the rounds.
+-- asked for what they broadcast, in order, and got those replies; and nobody else asked. So its tables are those of the rounds.
 pub record Ran (limits : Limits) (policy : Policy) (shards : ℕ) (brought : List (List Sample)) (rounds : List Round) (asked : List Broadcast) (i : ℕ) (acts : History) : Type 0 where
   pub legal : Legal limits policy acts
   pub submitted : (r : ℕ) → r < length brought → events_of (acts_by r acts) ≡ asks shards i (get_or brought r [])

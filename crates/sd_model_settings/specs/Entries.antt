@@ -1,8 +1,9 @@
 -- The kinds of settings: of what type the values of each are, and what a value of the file is read as; and before them the settings
 -- that are lists: thresholds, backends, the entries of `histogram`, `repeater` and `nodes`, and the classes of timers' lines. The
 -- setting that chooses these has its name from StatsD (exampleConfig.js); the names that it lists are of this project.
-use Rattle.std.specs.{Prelude.{ℕ, ◌^◌, ◌==◌, ◌&&◌, ◌||◌, Bool, true, false, not, nat_le, if◌then◌else◌, ℤ, pos, unsigned_abs, int_lt, int_le, List, [], ◌∷◌, codes, Result, Ok, Err, map, ◌*◌}, List.{list_any, list_all}, Str.{bytes_eq}, Ordering.{int_eq}}
+use Rattle.std.specs.{Prelude.{ℕ, ◌^◌, ◌==◌, ◌&&◌, ◌||◌, Bool, true, false, not, nat_le, if◌then◌else◌, ℤ, pos, unsigned_abs, int_lt, int_le, List, [], ◌∷◌, ◌++◌, codes, Result, Ok, Err, map, ◌*◌}, List.{list_any, list_all}, Str.{bytes_eq}, Ordering.{int_eq}}
 use Rattle.toml.specs.Data.{Data, string, array, Items, no_items, item, Members, get_member}
+use Rattle.sd_model_outside.specs.Backend.{backends, backend_name}
 use Rattle.sd_model_text.specs.Numbers.{Limit, Below, Infinite, ascends}
 use Rattle.sd_model_settings.specs.Values.{ValueFlaw, OtherKind, both, mapped, ranged, whole_read, text, is_host, is_name_text, decimal, each, are_at_most, listed, one_or_list, are_distinct, entry, required, optional, flag, is_filled_prefix}
 
@@ -10,9 +11,9 @@ use Rattle.sd_model_settings.specs.Values.{ValueFlaw, OtherKind, both, mapped, r
 abbrev pub thresholds : Data → Result (List ℤ) ValueFlaw
 thresholds d = ranged (λ xs. list_all (λ z. nat_le (unsigned_abs z) 100000000 && not (unsigned_abs z == 0)) xs && are_distinct int_eq xs) (ranged (are_at_most 16) (each decimal (one_or_list d)))
 
--- the name of a backend
+-- the name of a backend, or of the repeater
 abbrev pub is_backend : List ℕ → Bool
-is_backend s = list_any (bytes_eq s) (codes "graphite" ∷ codes "console" ∷ codes "repeater" ∷ [])
+is_backend s = list_any (bytes_eq s) (map backend_name backends ++ codes "repeater" ∷ [])
 
 -- The bins of the timers whose names have a part.
 pub record Classes : Type 0 where

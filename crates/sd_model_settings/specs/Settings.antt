@@ -1,5 +1,4 @@
--- What a settings file sets, or its first fault: the reading of a setting and of the table; the names that are known; the defaults;
--- and what is taken out of the values: what a record is made by, and Graphite's names.
+-- What a settings file sets, or its first fault; the known names; the defaults; what a record is made by, and Graphite's names.
 use Rattle.std.specs.{Prelude.{ℕ, nat_lt, if◌then◌else◌, List, length, take, codes, Option, Some, None, Result, Ok, Err, IfErr, [], ◌∷◌, ◌++◌, ℤ, ok_or}, Str.{is_utf8, bytes_eq}, List.{list_any}, Option.{option_or}}
 use Rattle.toml.specs.{Data.{Members, Data, array, table, Items, no_items, item, no_members, member, get_member}, Parse.{parse_document}}
 use Rattle.sd_model_text.specs.Lists.{◌>>=◌}

@@ -148,8 +148,7 @@ flush_rules = do
 -- How many texts may wait for each backend and of how many bytes each may be, the port of streams of lines, whether the samples of
 -- counters and gauges are summed up as they come and take none of a shard's entries, the port at which a proxy answers admin lines,
 -- whether flushes are at multiples of their interval of the system's clock, how many bytes of lines a proxy puts into one datagram,
--- and how many bytes of room for the datagrams that wait for it each receiver asks the system for; a port 0 and a room 0 are none,
--- and 0 bytes of lines are a datagram a line.
+-- and how many bytes of room for waiting datagrams each receiver asks the system for; port and room 0 are none, 0 bytes one line each.
 pub record Transport : Type 0 where
   pub outlets : ℕ
   pub outlet_bytes : ℕ

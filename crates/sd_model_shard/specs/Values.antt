@@ -1,7 +1,6 @@
 -- What a list of values comes to: a timer's statistics, its thresholds and bins, and how many members of a set differ. The
 -- quantities are those of StatsD (https://github.com/statsd/statsd/blob/master/docs/metric_types.md), in whole millionths.
-use Rattle.std.specs.{Prelude.{ℕ, ◌-◌, ◌*◌, ◌/◌, ◌==◌, ◌&&◌, Bool, true, not, nat_le, if◌then◌else◌, ℤ, pos, ◌+ℤ◌, ◌-ℤ◌, unsigned_abs, int_lt, List, [], ◌∷◌, length, take, drop, map, filter, flat_map, fold, sum_by, count_by, slice_index_or, Option, Some, None}, List.{range_with_len}, Ordering.{nat_cmp, int_cmp, int_eq}, FinMap.{from_entries, keys}, FinSet.{from_list, len}}
-use Rattle.std.specs.Cmp.Lexicographic.{slice_cmp}
+use Rattle.std.specs.{Prelude.{ℕ, ◌-◌, ◌*◌, ◌/◌, ◌==◌, ◌&&◌, Bool, true, not, nat_le, if◌then◌else◌, ℤ, pos, ◌+ℤ◌, ◌-ℤ◌, unsigned_abs, int_lt, List, [], ◌∷◌, length, take, drop, map, filter, flat_map, fold, sum_by, count_by, slice_index_or, Option, Some, None}, List.{range_with_len}, Ordering.{nat_cmp, int_cmp, int_eq}, FinMap.{from_entries, keys}, FinSet.{from_list, len}, Cmp.Lexicographic.{slice_cmp}}
 use Rattle.sd_model_text.specs.Numbers.{rounded, round, per_second, Limit, Below, Infinite}
 
 -- A list from the least value to the greatest: each value that is in it, as often as it is there.

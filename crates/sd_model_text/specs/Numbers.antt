@@ -1,7 +1,6 @@
 -- Numbers are whole millionths: 1 stands for 0.000001.
-use Rattle.std.specs.{Prelude.{ℕ, ◌+◌, ◌*◌, ◌/◌, ◌%◌, ◌^◌, ◌==◌, ◌&&◌, ◌||◌, Bool, true, false, nat_lt, nat_le, int_lt, if◌then◌else◌, ℤ, pos, negsuc, ◌*ℤ◌, List, [], ◌∷◌, ◌++◌, length, drop, map, Option, Some, None, Result, Ok, Err}, Char.{is_ascii_digit}, Fmt.{decimal}, List.{list_all, position_or_len, before_first, after_first}}
+use Rattle.std.specs.{Prelude.{ℕ, ◌+◌, ◌*◌, ◌/◌, ◌%◌, ◌^◌, ◌==◌, ◌&&◌, ◌||◌, Bool, true, false, nat_lt, nat_le, int_lt, if◌then◌else◌, ℤ, pos, negsuc, ◌*ℤ◌, List, [], ◌∷◌, ◌++◌, length, drop, map, Option, Some, None, Result, Ok, Err}, Char.{is_ascii_digit}, Fmt.{decimal}, List.{list_all, position_or_len, before_first, after_first}, Str.Parse.{digits_value}}
 use Rattle.std.proofs.Common.{suc, neg_ℤ}
-use Rattle.std.specs.Str.Parse.{digits_value}
 use Rattle.sd_model_text.specs.Lists.{trim_end}
 
 -- the natural number nearest to a / b, and in a tie the greater one

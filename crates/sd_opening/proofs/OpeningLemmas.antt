@@ -1,11 +1,18 @@
 -- Parts that are opened in their order, of which one stops it.
-use Rattle.std.proofs.Common.{◌≡◌, ℕ, zero, suc, ◌+◌, ◌-◌, ◌*◌, ◌<◌, ◌≤◌, Bool, true, false, List, [], ◌∷◌, ◌++◌, length, get_or, set, inl, inr, refl, sym, ap, subst, ◌∙◌, arith, append-nil, append_assoc, length-append}
+use Rattle.std.proofs.Common.{◌≡◌, ℕ, zero, suc, ◌+◌, ◌-◌, ◌*◌, ◌<◌, ◌≤◌, Bool, true, false, List, [], ◌∷◌, ◌++◌, length, get_or, set, flat_map, inl, inr, refl, sym, ap, subst, ◌∙◌, arith, append-nil, append_assoc, length-append}
 use Rattle.std.specs.Prelude.{if◌then◌else◌}
 use Rattle.std.proofs.Math.Nat.{suc-mul, zero-mul}
 use Rattle.sd_model_outside.specs.Outside.{Object, Place, File, HasFailed, Unknown, fresh, opened}
+use Rattle.std.proofs.Math.Path.{fun_ext}
+use Rattle.sd_model_outside.specs.Backend.{Backend, Graphite, backends, with_one}
+use Rattle.sd_model_outside.proofs.BackendLemmas.{each_with_one, map_with_one, with_one_at, with_one_same}
+use Rattle.sd_model_settings.specs.Settings.{Settings}
+use Rattle.sd_model_replay.specs.Replay.{is_used}
+use Rattle.sd_outside.specs.Backends.{Done, StopsAt}
+use Rattle.sd_outside.specs.declared.backend.Back.{Back}
 use Rattle.sd_model_call.specs.Call.{Answer, StopsAmong}
-use Rattle.sd_model_call.specs.Opening.{Flags, OfConsole, OfGraphite, Opening, Part, World, numbered, opened_all, opening_where, part_in, repeated, with_part}
-use Rattle.sd_opening.specs.Causes.{AreOpened, BackStops, EachStops, IsNotOpened, WhereStops, opened_each, opened_where}
+use Rattle.sd_model_call.specs.Opening.{OfBackend, Opening, backend_openings, Part, World, numbered, opened_all, opening_where, part_in, repeated, with_part}
+use Rattle.sd_opening.specs.Causes.{AreOpened, BackStops, back_places, EachStops, FailsBack, OpensBack, OpensWhere, IsNotOpened, WhereStops, opened_each, opened_where}
 use Rattle.sd_model_call.proofs.Short.{opened_part}
 
 -- parts that were opened one list after the other
@@ -193,50 +200,94 @@ pub where_opened : (used : Bool) (o : Opening) (w : World) (n : Object) → n �
 where_opened true o w n is stays = ap (λ x. with_part o.part x w) is
 where_opened false o w n is stays = ap (λ x. with_part o.part x w) is ∙ stays
 
--- a world with these backends, and these flags
-abbrev pub with_backs : World → Flags → Object → Object → World
-with_backs w flags g c = record w { seen = record w.seen { graphite = g; console = c }; flags = flags }
+-- with Graphite at the empty name all are
+pub empty_places : back_places (File []) ≡ (λ b. File [])
+empty_places = fun_ext same where
+  same : (b : Backend) → back_places (File []) b ≡ File []
+  same Graphite = refl
+  same b = refl
 
--- Both backends of a world, Graphite at this place.
-module _ (place : Place) where
-  abbrev at_graphite : Opening
-  at_graphite = record { part = OfGraphite; place = place }
+-- a world with these backends, of which these are used
+abbrev pub with_backs : World → (Backend → Bool) → (Backend → Object) → World
+with_backs w used backs = record w { seen = record w.seen { backs = backs }; uses = used }
 
-  abbrev at_console : Opening
-  at_console = record { part = OfConsole; place = File [] }
+-- The backends of a world, each at its place.
+module _ (places : Backend → Place) where
+  abbrev at_place : Backend → Opening
+  at_place b = record { part = OfBackend b; place = places b }
 
-  -- what is opened of them, where flags say which are used
-  abbrev pub back_openings : Flags → List Opening
-  back_openings flags = opening_where flags.graphite (record { part = OfGraphite; place = place }) ++ opening_where flags.console (record { part = OfConsole; place = File [] })
+  -- what is opened of these, where they are used
+  abbrev openings_of : (Backend → Bool) → List Backend → List Opening
+  openings_of used bs = flat_map (λ b. opening_where (used b) (at_place b)) bs
+
+  unchanged : (w : World) (b : Backend) → with_part (OfBackend b) (part_in w (OfBackend b)) w ≡ w
+  unchanged w b = ap (λ backs. with_backs w w.uses backs) (with_one_same b w.seen.backs)
 
   -- they are opened
-  backs_opened : (w : World) (flags : Flags) (g c : Object) → flags ≡ w.flags → AreOpened w.flags place w.seen.graphite w.seen.console g c → with_backs w flags g c ≡ opened_all w (back_openings w.flags)
-  backs_opened w flags g c same (is_graphite, is_console) =
-      let mid = with_part OfGraphite g w in
-      ap (λ f. with_backs w f g c) same
-      ∙ opened_behind (opening_where w.flags.graphite at_graphite) (opening_where w.flags.console at_console) w mid (with_part OfConsole c mid)
-      (where_opened w.flags.graphite at_graphite w g is_graphite refl) (where_opened w.flags.console at_console mid c is_console refl)
+  backs_opened : (bs : List Backend) (w : World) (new : Backend → Object) → Done (OpensWhere w.uses places) bs w.seen.backs new → with_backs w w.uses new ≡ opened_all w (openings_of w.uses bs)
+  backs_opened [] w new h = ap (λ backs. with_backs w w.uses backs) h
+  backs_opened (b ∷ bs) w new (x, is, rest) =
+      let mid = with_part (OfBackend b) x w in
+      opened_behind (opening_where (w.uses b) (at_place b)) (openings_of w.uses bs) w mid (with_backs w w.uses new)
+      (where_opened (w.uses b) (at_place b) w x is (unchanged w b)) (backs_opened bs mid new rest)
 
   -- one of them isn't
-  backs_stop : (w : World) (answer : Answer) (flags : Flags) (g c : Object) → flags ≡ w.flags → BackStops w.flags place answer w.seen.graphite w.seen.console g c → StopsAmong (back_openings w.flags) answer w (with_backs w flags g c)
-  backs_stop w answer flags g c same (inl (stops, stays)) =
-      subst (λ o. StopsAmong (back_openings w.flags) answer w (with_backs w flags g o)) (sym stays)
-      (subst (λ f. StopsAmong (back_openings w.flags) answer w (with_backs w f g w.seen.console)) (sym same)
-      (where_stops w.flags.graphite at_graphite (opening_where w.flags.console at_console) answer w g stops refl refl))
-  backs_stop w answer flags g c same (inr (is, stops)) =
-      let mid = with_part OfGraphite g w in
-      let behind = opening_where w.flags.console at_console in
-      subst (λ f. StopsAmong (back_openings w.flags) answer w (with_backs w f g c)) (sym same)
-      (stops_behind (opening_where w.flags.graphite at_graphite) behind answer w mid (with_part OfConsole c mid) (where_opened w.flags.graphite at_graphite w g is refl)
-      (subst (λ os. StopsAmong os answer mid (with_part OfConsole c mid)) (append-nil behind) (where_stops w.flags.console at_console [] answer mid c stops refl refl)))
+  backs_stop : (bs : List Backend) (answer : Answer) (w : World) (new : Backend → Object) → StopsAt (OpensWhere w.uses places) (λ b o n. WhereStops (w.uses b) (OfBackend b) answer o n) bs w.seen.backs new
+      → StopsAmong (openings_of w.uses bs) answer w (with_backs w w.uses new)
+  backs_stop [] answer w new h = absurd h
+  backs_stop (b ∷ bs) answer w new (inl (x, stops, is)) =
+      subst (λ backs. StopsAmong (openings_of w.uses (b ∷ bs)) answer w (with_backs w w.uses backs)) (sym is)
+      (where_stops (w.uses b) (at_place b) (openings_of w.uses bs) answer w x stops (with_one_at b x w.seen.backs) (unchanged w b))
+  backs_stop (b ∷ bs) answer w new (inr (x, is, rest)) =
+      let mid = with_part (OfBackend b) x w in
+      stops_behind (opening_where (w.uses b) (at_place b)) (openings_of w.uses bs) answer w mid (with_backs w w.uses new)
+      (where_opened (w.uses b) (at_place b) w x is (unchanged w b)) (backs_stop bs answer mid new rest)
 
--- The same of a place and flags that are known to be these.
-module _ (place at : Place) (is_place : at ≡ place) (asked : Flags) (w : World) (by : w.flags ≡ asked) (flags : Flags) (kept : flags ≡ w.flags) (g c : Object) where
-  pub backs_opened_at : AreOpened w.flags at w.seen.graphite w.seen.console g c → with_backs w flags g c ≡ opened_all w (back_openings place asked)
-  backs_opened_at h = backs_opened at w flags g c kept h ∙ ap (opened_all w) (λ i. back_openings (is_place i) (by i))
+-- The same of places and of uses that are known to be these.
+module _ (s : Settings) (places at : Backend → Place) (are : at ≡ places) (w : World) (by : w.uses ≡ is_used s) (used : Backend → Bool) (kept : used ≡ w.uses) (new : Backend → Object) where
+  pub backs_opened_at : AreOpened w.uses at w.seen.backs new → with_backs w used new ≡ opened_all w (backend_openings s places)
+  backs_opened_at h = ap (λ u. with_backs w u new) kept ∙ backs_opened at backends w new h ∙ ap (opened_all w) (λ i. openings_of (are i) (by i) backends)
 
-  pub backs_stop_at : (answer : Answer) → BackStops w.flags at answer w.seen.graphite w.seen.console g c → StopsAmong (back_openings place asked) answer w (with_backs w flags g c)
-  backs_stop_at answer h = subst (λ os. StopsAmong os answer w (with_backs w flags g c)) (λ i. back_openings (is_place i) (by i)) (backs_stop at w answer flags g c kept h)
+  pub backs_stop_at : (answer : Answer) → BackStops w.uses at answer w.seen.backs new → StopsAmong (backend_openings s places) answer w (with_backs w used new)
+  backs_stop_at answer h =
+      subst (λ u. StopsAmong (backend_openings s places) answer w (with_backs w u new)) (sym kept)
+      (subst (λ os. StopsAmong os answer w (with_backs w w.uses new)) (λ i. openings_of (are i) (by i) backends) (backs_stop at backends answer w new h))
+
+-- What is seen of backends that were opened.
+module _ {B : Type 0} (seen : B → Object) (places : Backend → Place) where
+  abbrev pub objects_of : (Backend → Back B) → Backend → Object
+  objects_of each b = seen (each b).object
+
+  abbrev uses_of : (Backend → Back B) → Backend → Bool
+  uses_of each b = (each b).is_used
+
+  -- with one that was opened, the same are used
+  still_used : (used : Backend → Bool) (b : Backend) (x : Back B) (old : Backend → Back B) → used ≡ (λ c. (old c).is_used) → x.is_used ≡ (old b).is_used → used ≡ (λ c. (with_one b x old c).is_used)
+  still_used used b x old are same = are ∙ fun_ext (each_with_one (λ c y. (old c).is_used ≡ y.is_used) b x old (sym same) (λ c. refl))
+
+  pub done_seen : (bs : List Backend) (used : Backend → Bool) (old new : Backend → Back B) → used ≡ (λ c. (old c).is_used) → Done (OpensBack seen places) bs old new
+      → Done (OpensWhere used places) bs (objects_of old) (objects_of new) × (used ≡ (λ c. (new c).is_used))
+  done_seen [] used old new are h = (ap objects_of h, are ∙ ap uses_of (sym h))
+  done_seen (b ∷ bs) used old new are (x, (same, opened_so), rest) =
+      let more = done_seen bs used (with_one b x old) new (still_used used b x old are same) rest in
+      ((seen x.object, subst (λ u. seen x.object ≡ opened_where (u b) (places b) (seen (old b).object)) (sym are) opened_so, subst (λ objects. Done (OpensWhere used places) bs objects (objects_of new)) (map_with_one (λ y. seen y.object) b x old) more.0), more.1)
+
+  pub stops_seen : (answer : Answer) (bs : List Backend) (used : Backend → Bool) (old new : Backend → Back B) → used ≡ (λ c. (old c).is_used) → StopsAt (OpensBack seen places) (FailsBack seen places answer) bs old new
+      → StopsAt (OpensWhere used places) (λ b o n. WhereStops (used b) (OfBackend b) answer o n) bs (objects_of old) (objects_of new) × (used ≡ (λ c. (new c).is_used))
+  stops_seen answer [] used old new are h = absurd h
+  stops_seen answer (b ∷ bs) used old new are (inl (x, (same, stops), is)) = (
+    inl (seen x.object, subst (λ u. WhereStops (u b) (OfBackend b) answer (seen (old b).object) (seen x.object)) (sym are) stops, ap objects_of is ∙ map_with_one (λ y. seen y.object) b x old),
+    still_used used b x old are same ∙ ap uses_of (sym is),
+  )
+  stops_seen answer (b ∷ bs) used old new are (inr (x, (same, opened_so), rest)) =
+      let more = stops_seen answer bs used (with_one b x old) new (still_used used b x old are same) rest in (
+        inr (
+          seen x.object,
+          subst (λ u. seen x.object ≡ opened_where (u b) (places b) (seen (old b).object)) (sym are) opened_so,
+          subst (λ objects. StopsAt (OpensWhere used places) (λ b o n. WhereStops (used b) (OfBackend b) answer o n) bs objects (objects_of new)) (map_with_one (λ y. seen y.object) b x old) more.0,
+        ),
+        more.1,
+      )
 
 -- an object that is opened where it is used has the turns of before, and is out where it was
 pub where_kept : (used : Bool) (place : Place) (o n : Object) → n ≡ (if used then opened place o else o) → (n.is_out ≡ o.is_out) × (n.turns ≡ o.turns)

@@ -1,8 +1,9 @@
 -- How the program of the code answers, as the definitions have it.
 use Rattle.sd_model_call.specs.Opening as opening
 use Rattle.sd_model_call.specs.Call as model
+use Rattle.sd_outside.specs.Backends.{kind_of}
 use Rattle.sd_opening.specs.declared.status.Part.{Part}
-use Rattle.sd_opening.specs.declared.status.Part.TheVariants.{Settings, Script, Packets, Beat, Wire, Graphite, Console, Door, Streams}
+use Rattle.sd_opening.specs.declared.status.Part.TheVariants.{Settings, Script, Packets, Beat, Wire, Backend, Door, Streams}
 use Rattle.sd_opening.specs.declared.status.Status.{Status}
 use Rattle.sd_opening.specs.declared.status.Status.TheVariants.{Ok, OutOfMemory, Usage, Config, ReadFault, WriteFault, OpenFault, Worn}
 use Rattle.sd_opening.specs.declared.status.Status.TheVariants as status
@@ -19,8 +20,7 @@ part_of Script = opening.OfScript
 part_of (Packets i) = opening.OfSource i
 part_of Beat = opening.OfBeat
 part_of (Wire i) = opening.OfWire i
-part_of Graphite = opening.OfGraphite
-part_of Console = opening.OfConsole
+part_of (Backend kind) = opening.OfBackend (kind_of kind)
 part_of Door = opening.OfDoor
 part_of Streams = opening.OfStreams
 

@@ -2,7 +2,10 @@
 use Rattle.std.specs.Prelude.{◌≡◌, ◌⊎◌, ℕ, ◌+◌, Bool, true, List, [], ◌∷◌, length, Err, if◌then◌else◌}
 use Rattle.sd_model_outside.specs.Outside.{Object, Place, File, HasFailed, opened}
 use Rattle.sd_model_settings.specs.Settings.{SettingsFlaw, settings}
-use Rattle.sd_model_call.specs.Opening.{Flags, OfConsole, OfGraphite, Part, longest_file}
+use Rattle.sd_model_outside.specs.Backend.{Backend, Graphite, backends}
+use Rattle.sd_model_call.specs.Opening.{OfBackend, Part, longest_file}
+use Rattle.sd_outside.specs.Backends.{Done, StopsAt}
+use Rattle.sd_outside.specs.declared.backend.Back.{Back}
 use Rattle.sd_model_call.specs.Call.{Answer, NoMemory, Misset, NotOpened}
 
 -- an object wasn't opened: no memory was left, or it failed
@@ -17,16 +20,30 @@ WhereStops used part answer old new = (used ≡ true) × IsNotOpened part answer
 abbrev pub opened_where : Bool → Place → Object → Object
 opened_where used place o = if used then opened place o else o
 
--- the backends that are used were opened: Graphite at this place, and the console at the empty name
-abbrev pub AreOpened : Flags → Place → (graphite console graphite_now console_now : Object) → Type 0
-AreOpened flags place graphite console graphite_now console_now =
-    (graphite_now ≡ opened_where flags.graphite place graphite) × (console_now ≡ opened_where flags.console (File []) console)
+-- a backend was opened at its place, where it is used
+abbrev pub OpensWhere : (Backend → Bool) → (Backend → Place) → Backend → Object → Object → Type 0
+OpensWhere used places b old new = new ≡ opened_where (used b) (places b) old
 
--- of the backends that are used one wasn't opened: Graphite at this place; or Graphite was, and the console wasn't
-abbrev pub BackStops : Flags → Place → Answer → (graphite console graphite_now console_now : Object) → Type 0
-BackStops flags place answer graphite console graphite_now console_now =
-    WhereStops flags.graphite OfGraphite answer graphite graphite_now × (console_now ≡ console)
-    ⊎ (graphite_now ≡ opened_where flags.graphite place graphite) × WhereStops flags.console OfConsole answer console console_now
+-- each backend was that is used
+abbrev pub AreOpened : (Backend → Bool) → (Backend → Place) → (old new : Backend → Object) → Type 0
+AreOpened used places old new = Done (OpensWhere used places) backends old new
+
+-- of the backends that are used one wasn't opened
+abbrev pub BackStops : (Backend → Bool) → (Backend → Place) → Answer → (old new : Backend → Object) → Type 0
+BackStops used places answer old new = StopsAt (OpensWhere used places) (λ b o n. WhereStops (used b) (OfBackend b) answer o n) backends old new
+
+-- the places of backends: Graphite's, and the empty name for each other one
+abbrev pub back_places : Place → Backend → Place
+back_places graphite Graphite = graphite
+back_places graphite b = File []
+
+module _ {B : Type 0} (seen : B → Object) (places : Backend → Place) where
+  -- a backend was opened at its place, where it is used, or it wasn't opened
+  abbrev pub OpensBack : Backend → Back B → Back B → Type 0
+  OpensBack b old new = (new.is_used ≡ old.is_used) × (seen new.object ≡ opened_where old.is_used (places b) (seen old.object))
+
+  abbrev pub FailsBack : Answer → Backend → Back B → Back B → Type 0
+  FailsBack answer b old new = (new.is_used ≡ old.is_used) × WhereStops old.is_used (OfBackend b) answer (seen old.object) (seen new.object)
 
 -- a settings file with these bytes gives no values: no memory was left, or it has a flaw
 abbrev pub IsRefused : Answer → List ℕ → Type 0

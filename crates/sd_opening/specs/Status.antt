@@ -1,7 +1,9 @@
 -- What a status says to the user, and to the shell.
 use Rattle.std.specs.Prelude.{ℕ, List, [], ◌∷◌, ◌++◌, codes, decimal}
+use Rattle.sd_model_outside.specs.Backend.{backend_name}
+use Rattle.sd_outside.specs.Backends.{kind_of}
 use Rattle.sd_opening.specs.declared.status.Part.{Part}
-use Rattle.sd_opening.specs.declared.status.Part.TheVariants.{Settings, Script, Packets, Beat, Wire, Graphite, Console, Door, Streams}
+use Rattle.sd_opening.specs.declared.status.Part.TheVariants.{Settings, Script, Packets, Beat, Wire, Backend, Door, Streams}
 use Rattle.sd_opening.specs.declared.status.Status.{Status}
 use Rattle.sd_opening.specs.declared.status.Status.TheVariants.{Ok, OutOfMemory, Usage, Config, ReadFault, WriteFault, OpenFault, Worn}
 use Rattle.sd_opening.specs.declared.status.Status.TheVariants as status
@@ -17,8 +19,7 @@ part_name Script = codes "script"
 part_name (Packets i) = codes "packets " ++ decimal i
 part_name Beat = codes "beat"
 part_name (Wire i) = codes "wire " ++ decimal i
-part_name Graphite = codes "graphite"
-part_name Console = codes "console"
+part_name (Backend kind) = backend_name (kind_of kind)
 part_name Door = codes "door"
 part_name Streams = codes "streams"
 

@@ -3,12 +3,8 @@ use Rattle.std.specs.Prelude.{◌≡◌, map}
 use Rattle.sd_model_outside.specs.Outside.{Object}
 use Rattle.sd_model_call.specs.Opening as model
 use Rattle.sd_run.specs.Seen.{seen_of}
-use Rattle.sd_outside.specs.declared.backend.Backs.{Backs}
+use Rattle.sd_outside.specs.Backends.{uses}
 use Rattle.sd_opening.specs.declared.world.World.{World}
-
--- which backends are flagged as used
-abbrev pub flags_in : {B : Type 0} → Backs B → model.Flags
-flags_in backs = record { graphite = backs.graphite_used; console = backs.console_used }
 
 -- by what is seen of a source of bytes, of the output, of a backend, of a source of datagrams, of a wire, of the admin door, of the
 -- beat, of the probe and of the door of streams
@@ -19,7 +15,7 @@ world_of of_source of_output of_back of_datagrams of_wire of_door of_beat of_pro
       seen = seen_of of_source of_output of_back of_wire world.script world.output world.backs world.wires.items;
       served = record { sources = map of_datagrams world.packets.items; beat = of_beat world.beat; door = of_door world.door; streams = of_streams world.streams };
       probe = of_probe world.probe;
-      flags = flags_in world.backs;
+      uses = uses world.backs;
     }
 
 -- what is opened before a server's parts, or is no part that is opened, is as it was

@@ -13,6 +13,7 @@ mod settings;
 mod status;
 mod telling;
 mod threads;
+mod uses;
 mod words;
 mod world;
 
@@ -23,5 +24,6 @@ pub use settings::read_settings;
 pub use status::{Part, Status, explain};
 pub use telling::{tell_end, tell_proxy, tell_server, tell_unfit, tell_unopened, tell_unread};
 pub use threads::{has_threads, threads_of_proxy, threads_of_server};
+pub use uses::use_named;
 pub use words::{Form, form_of};
 pub use world::{World, WorldOf};

@@ -1,18 +1,21 @@
 ghost use Rattle.std.specs.Prelude.{◌≡◌, ◌+◌, ◌*◌, ◌<◌, ◌≤◌, ◌^◌, length, map, OnOk, IfErr};
 ghost use Rattle.sd_model_outside.specs.Outside.{Place, opened, Host};
-ghost use Rattle.sd_model_replay.specs.Replay.{targets_of};
+ghost use Rattle.sd_model_replay.specs.Replay.{is_used, targets_of};
 ghost use Rattle.sd_model_call.specs.Call.{StopsAmong};
-ghost use Rattle.sd_model_call.specs.Opening.{OfWire, flags_of, numbered, opened_all, repeated, replay_openings, wire_openings};
+ghost use Rattle.sd_model_call.specs.Opening.{OfWire, numbered, opened_all, repeated, replay_openings, wire_openings};
 ghost use Rattle.sd_plan.specs.Entries.{node_view, target_view};
+ghost use Rattle.sd_outside.specs.Backends.{back_of, kind_of, uses};
 ghost use Rattle.sd_outside.specs.Places.{place_of};
 ghost use Rattle.sd_opening.specs.Answers.{answer_of, part_of};
-ghost use Rattle.sd_opening.specs.Causes.{AreOpened, BackStops, EachStops, IsNotOpened, WhereStops, opened_each, opened_where};
-ghost use Rattle.sd_opening.specs.World.{SameRest, flags_in, world_of};
+ghost use Rattle.sd_opening.specs.Causes.{AreOpened, BackStops, back_places, EachStops, IsNotOpened, WhereStops, opened_each, opened_where};
+ghost use Rattle.sd_opening.specs.World.{SameRest, world_of};
 
 use crate::status::{Part, Status};
 use crate::world::WorldOf;
 use sd_config::Settings;
-use sd_outside::{Address, Backend, Backs, Name, OpenRefusal, Opens, Wire};
+use sd_outside::{
+    Address, Back, Backend, BackendKind, Backs, Name, OpenRefusal, Opens, TryBackend, Wire,
+};
 use sd_plan::{Node, Target};
 use sd_run::{ObjectTypes, targets_of};
 
@@ -134,7 +137,7 @@ pub(crate) fn open_peers<N: Peer, K: ObjectTypes>(
     ensures streams { (world.new).streams ≡ (world.old).streams }
     ensures rest { SameRest world.old world.new }
     ensures backs { (world.new).backs ≡ (world.old).backs }
-    ensures flags { (world_of K.R.seen K.O.seen K.B.seen K.D.seen K.L.seen K.E.seen K.P.seen K.Q.seen K.S.seen world.new).flags ≡ (world_of K.R.seen K.O.seen K.B.seen K.D.seen K.L.seen K.E.seen K.P.seen K.Q.seen K.S.seen world.old).flags }
+    ensures same_use { (world_of K.R.seen K.O.seen K.B.seen K.D.seen K.L.seen K.E.seen K.P.seen K.Q.seen K.S.seen world.new).uses ≡ (world_of K.R.seen K.O.seen K.B.seen K.D.seen K.L.seen K.E.seen K.P.seen K.Q.seen K.S.seen world.old).uses }
 {
     open_runs(0, runs, peers, &mut world.wires)
 }
@@ -161,7 +164,7 @@ pub(crate) fn open_repeater<K: ObjectTypes>(
     ensures door { (world.new).door ≡ (world.old).door }
     ensures streams { (world.new).streams ≡ (world.old).streams }
     ensures rest { SameRest world.old world.new }
-    ensures flags { (world_of K.R.seen K.O.seen K.B.seen K.D.seen K.L.seen K.E.seen K.P.seen K.Q.seen K.S.seen world.new).flags ≡ (world_of K.R.seen K.O.seen K.B.seen K.D.seen K.L.seen K.E.seen K.P.seen K.Q.seen K.S.seen world.old).flags }
+    ensures same_use { (world_of K.R.seen K.O.seen K.B.seen K.D.seen K.L.seen K.E.seen K.P.seen K.Q.seen K.S.seen world.new).uses ≡ (world_of K.R.seen K.O.seen K.B.seen K.D.seen K.L.seen K.E.seen K.P.seen K.Q.seen K.S.seen world.old).uses }
     ensures few { length (targets_of settings.now) ≤ 16 }
 {
     open_peers::<Target, K>(runs, targets_of(settings), world)
@@ -184,30 +187,55 @@ pub(crate) fn open_where<T: Opens>(
     if used { open(object, at, part) } else { Ok(()) }
 }
 
-/// Opens each backend that is used: Graphite at this address, and the console at the file with the empty name.
+/// Where backends are opened: Graphite at this address, and each other one at the file with the empty name.
+#[derive(Drop)]
+struct BackPlaces<'a> {
+    graphite: &'a Address,
+}
+
+impl BackPlaces<'_> {
+    fn of(&self, kind: BackendKind) -> Address
+        ensures { place_of result ≡ back_places (place_of (self.now).graphite.now) (kind_of kind) }
+    {
+        match kind {
+            BackendKind::Graphite => self.graphite.copied(),
+            _ => Address::File(Name::new()),
+        }
+    }
+}
+
+impl<B: Backend> TryBackend<Back<B>> for BackPlaces<'_> {
+    type Refusal = Status;
+
+    ghost use Rattle.sd_opening.specs.Answers.{answer_of};
+    ghost use Rattle.sd_opening.specs.Causes.{FailsBack, OpensBack, back_places};
+    ghost use Rattle.sd_outside.specs.Places.{place_of};
+
+    ghost does = { λ places. OpensBack B.seen (back_places (place_of places.graphite.now)) };
+
+    ghost fails = { λ places status. FailsBack B.seen (back_places (place_of places.graphite.now)) (answer_of status) };
+
+    fn try_one(&self, kind: BackendKind, back: &mut Back<B>) -> Result<(), Status> {
+        open_where(
+            back.is_used,
+            &mut back.object,
+            &self.of(kind),
+            Part::Backend(kind),
+        )
+    }
+}
+
+/// Opens each backend that is used: Graphite at this address, and each other one at the file with the empty name.
 ///
 /// # Errors
 ///
 /// `OpenFault` where one failed, and `OutOfMemory`.
 pub(crate) fn open_backs<B: Backend>(backs: &mut Backs<B>, graphite: &Address) -> Result<(), Status>
-    ensures opened { OnOk result (AreOpened (flags_in backs.old) (place_of graphite.now)
-        (B.seen (backs.old).graphite) (B.seen (backs.old).console) (B.seen (backs.new).graphite) (B.seen (backs.new).console)) }
-    ensures refused { IfErr result (λ status. BackStops (flags_in backs.old) (place_of graphite.now) (answer_of status)
-        (B.seen (backs.old).graphite) (B.seen (backs.old).console) (B.seen (backs.new).graphite) (B.seen (backs.new).console)) }
-    ensures flags { flags_in backs.new ≡ flags_in backs.old }
+    ensures opened { OnOk result (AreOpened (uses backs.old) (back_places (place_of graphite.now)) (back_of B.seen backs.old) (back_of B.seen backs.new)) }
+    ensures refused { IfErr result (λ status. BackStops (uses backs.old) (back_places (place_of graphite.now)) (answer_of status) (back_of B.seen backs.old) (back_of B.seen backs.new)) }
+    ensures same_use { uses backs.new ≡ uses backs.old }
 {
-    open_where(
-        backs.graphite_used,
-        &mut backs.graphite,
-        graphite,
-        Part::Graphite,
-    )?;
-    open_where(
-        backs.console_used,
-        &mut backs.console,
-        &Address::File(Name::new()),
-        Part::Console,
-    )
+    backs.try_each(&BackPlaces { graphite })
 }
 
 /// Opens what a replay by these settings uses: the script, a wire for each target of the repeater, and each backend that is used.
@@ -220,7 +248,7 @@ pub fn open_replay<K: ObjectTypes>(
     script: Name,
     world: &mut WorldOf<K>,
 ) -> Result<(), Status>
-    requires flags { (world_of K.R.seen K.O.seen K.B.seen K.D.seen K.L.seen K.E.seen K.P.seen K.Q.seen K.S.seen world.old).flags ≡ flags_of settings.now }
+    requires uses { (world_of K.R.seen K.O.seen K.B.seen K.D.seen K.L.seen K.E.seen K.P.seen K.Q.seen K.S.seen world.old).uses ≡ is_used settings.now }
     requires wires { 256 ≤ length (world.old).wires.items }
     ensures opened { OnOk result (world_of K.R.seen K.O.seen K.B.seen K.D.seen K.L.seen K.E.seen K.P.seen K.Q.seen K.S.seen world.new
         ≡ opened_all (world_of K.R.seen K.O.seen K.B.seen K.D.seen K.L.seen K.E.seen K.P.seen K.Q.seen K.S.seen world.old) (replay_openings script.items settings.now)) }
@@ -233,7 +261,7 @@ pub fn open_replay<K: ObjectTypes>(
     ensures streams { (world.new).streams ≡ (world.old).streams }
     ensures beat { (world.new).beat ≡ (world.old).beat }
     ensures probe { (world.new).probe ≡ (world.old).probe }
-    ensures flags { (world_of K.R.seen K.O.seen K.B.seen K.D.seen K.L.seen K.E.seen K.P.seen K.Q.seen K.S.seen world.new).flags ≡ (world_of K.R.seen K.O.seen K.B.seen K.D.seen K.L.seen K.E.seen K.P.seen K.Q.seen K.S.seen world.old).flags }
+    ensures same_use { (world_of K.R.seen K.O.seen K.B.seen K.D.seen K.L.seen K.E.seen K.P.seen K.Q.seen K.S.seen world.new).uses ≡ (world_of K.R.seen K.O.seen K.B.seen K.D.seen K.L.seen K.E.seen K.P.seen K.Q.seen K.S.seen world.old).uses }
     ensures count { length (world.new).wires.items ≡ length (world.old).wires.items }
     ensures few { OnOk result (length (targets_of settings.now) ≤ 16) }
 {

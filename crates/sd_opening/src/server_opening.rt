@@ -3,7 +3,8 @@ ghost use Rattle.std.specs.Prelude.{◌≡◌, ◌+◌, ◌<◌, ◌≤◌, ◌^
 ghost use Rattle.sd_model_outside.specs.Outside as outside;
 ghost use Rattle.sd_model_outside.specs.Outside.{Host, opened};
 ghost use Rattle.sd_model_call.specs.Call.{StopsAmong};
-ghost use Rattle.sd_model_call.specs.Opening.{OfSource, flags_of, opened_all, repeated};
+ghost use Rattle.sd_model_replay.specs.Replay.{is_used};
+ghost use Rattle.sd_model_call.specs.Opening.{OfSource, opened_all, repeated};
 ghost use Rattle.sd_model_call.specs.Server.{door_openings, has_streams, server_openings, source_openings, stream_openings};
 ghost use Rattle.sd_outside.specs.Places.{place_of};
 ghost use Rattle.sd_opening.specs.Answers.{answer_of};
@@ -88,7 +89,7 @@ pub(crate) fn open_packets<K: ObjectTypes>(
     ensures streams { (world.new).streams ≡ (world.old).streams }
     ensures rest { SameRest world.old world.new }
     ensures backs { (world.new).backs ≡ (world.old).backs }
-    ensures flags { (world_of K.R.seen K.O.seen K.B.seen K.D.seen K.L.seen K.E.seen K.P.seen K.Q.seen K.S.seen world.new).flags ≡ (world_of K.R.seen K.O.seen K.B.seen K.D.seen K.L.seen K.E.seen K.P.seen K.Q.seen K.S.seen world.old).flags }
+    ensures same_use { (world_of K.R.seen K.O.seen K.B.seen K.D.seen K.L.seen K.E.seen K.P.seen K.Q.seen K.S.seen world.new).uses ≡ (world_of K.R.seen K.O.seen K.B.seen K.D.seen K.L.seen K.E.seen K.P.seen K.Q.seen K.S.seen world.old).uses }
 {
     let receivers = u16::try_from(settings.receivers()).unwrap();
     let at = datagrams_address(
@@ -168,7 +169,7 @@ pub fn open_server<K: ObjectTypes>(
     settings: &Settings,
     world: &mut WorldOf<K>,
 ) -> Result<(), Status>
-    requires flags { (world_of K.R.seen K.O.seen K.B.seen K.D.seen K.L.seen K.E.seen K.P.seen K.Q.seen K.S.seen world.old).flags ≡ flags_of settings.now }
+    requires uses { (world_of K.R.seen K.O.seen K.B.seen K.D.seen K.L.seen K.E.seen K.P.seen K.Q.seen K.S.seen world.old).uses ≡ is_used settings.now }
     requires packets { 16 ≤ length (world.old).packets.items }
     requires wires { 256 ≤ length (world.old).wires.items }
     ensures opened { OnOk result (world_of K.R.seen K.O.seen K.B.seen K.D.seen K.L.seen K.E.seen K.P.seen K.Q.seen K.S.seen world.new
@@ -181,7 +182,7 @@ pub fn open_server<K: ObjectTypes>(
     ensures door { OnOk result (K.E.seen (world.new).door ≡ opened (Host (settings.now).addresses.mgmt_address (settings.now).server.mgmt_port) (K.E.seen (world.old).door)) }
     ensures streams { OnOk result (K.S.seen (world.new).streams ≡ (if has_streams settings.now then opened (Host (settings.now).addresses.address (settings.now).transport.tcp_port) (K.S.seen (world.old).streams) else K.S.seen (world.old).streams)) }
     ensures rest { SameRest world.old world.new }
-    ensures flags { (world_of K.R.seen K.O.seen K.B.seen K.D.seen K.L.seen K.E.seen K.P.seen K.Q.seen K.S.seen world.new).flags ≡ (world_of K.R.seen K.O.seen K.B.seen K.D.seen K.L.seen K.E.seen K.P.seen K.Q.seen K.S.seen world.old).flags }
+    ensures same_use { (world_of K.R.seen K.O.seen K.B.seen K.D.seen K.L.seen K.E.seen K.P.seen K.Q.seen K.S.seen world.new).uses ≡ (world_of K.R.seen K.O.seen K.B.seen K.D.seen K.L.seen K.E.seen K.P.seen K.Q.seen K.S.seen world.old).uses }
 {
     let receivers = u16::try_from(settings.receivers()).unwrap();
     open_packets::<K>(settings, world)?;

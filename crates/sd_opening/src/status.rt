@@ -3,7 +3,7 @@ ghost use Rattle.sd_opening.specs.Status.{config_reason, explanation, reason, pa
 
 use sd_config::ConfigFault;
 use sd_decimal::{Line, write_whole};
-use sd_outside::Name;
+use sd_outside::{BackendKind, Name};
 use sd_script::ScriptFault;
 
 /// How the program is called.
@@ -23,8 +23,7 @@ pub enum Part {
     Beat,
     /// A wire, counted from 0.
     Wire(u16),
-    Graphite,
-    Console,
+    Backend(BackendKind),
     Door,
     Streams,
 }
@@ -96,8 +95,7 @@ fn push_part(part: Part, out: &mut Line)
             push_text(b"wire ", out);
             write_whole(u128::from(i), out);
         }
-        Part::Graphite => push_text(b"graphite", out),
-        Part::Console => push_text(b"console", out),
+        Part::Backend(kind) => push_text(kind.name().as_bytes(), out),
         Part::Door => push_text(b"door", out),
         Part::Streams => push_text(b"streams", out),
     }

@@ -8,8 +8,8 @@ use sd_event::{
     Places, ProxyParts, ServerParts, SettingRefused, outlets_small, proxy_started, refused,
     refused_setting, refused_toml, refused_with, server_started, stopped,
 };
-use sd_outside::{Address, Name};
-use sd_run::{full_console_text, full_graphite_text, names_backend};
+use sd_outside::{Address, BACKENDS, BackendKind, Name};
+use sd_run::{full_text, names_backend};
 use std::alloc::Global;
 use std::str;
 
@@ -164,17 +164,30 @@ pub fn tell_unread<L: Log>(log: &L, at: &Address, status: &Status) {
     }
 }
 
+/// Appends as much of a text as there is room for.
+fn push_fitting(text: &[u8], line: &mut Line) {
+    for &byte in text {
+        let _ = line.try_push(byte);
+    }
+}
+
 /// The text of a host and a port.
 fn host_and_port(host: &Name, port: u32) -> Line {
     let mut line = Line::new();
-    for &byte in host.as_slice() {
-        let _ = line.try_push(byte);
-    }
+    push_fitting(host.as_slice(), &mut line);
     let _ = line.try_push(b':');
     if line.as_slice().len() <= MOST_HOST {
         write_whole(u128::from(port), &mut line);
     }
     line
+}
+
+/// Where a backend should have been opened, if that isn't the file with the empty name.
+fn back_address(kind: BackendKind, settings: &Settings) -> Line {
+    match kind {
+        BackendKind::Graphite => host_and_port(settings.graphite_host(), settings.graphite_port()),
+        _ => Line::new(),
+    }
 }
 
 /// The name of an object, and where it should have been opened; the door of admin sessions at this port.
@@ -188,13 +201,7 @@ fn object_of(part: Part, settings: &Settings, mgmt_port: u32) -> (&'static str, 
         ),
         Part::Beat => ("beat", Line::new()),
         Part::Wire(_) => ("wire", Line::new()),
-        Part::Graphite => {
-            (
-                "graphite",
-                host_and_port(settings.graphite_host(), settings.graphite_port()),
-            )
-        }
-        Part::Console => ("console", Line::new()),
+        Part::Backend(kind) => (kind.name(), back_address(kind, settings)),
         Part::Door => ("door", host_and_port(settings.mgmt_address(), mgmt_port)),
         Part::Streams => (
             "streams",
@@ -221,15 +228,20 @@ pub(crate) fn tell_too_few<L: Log>(log: &L) {
 }
 
 /// Which backends settings name, in words.
-fn backends_of(settings: &Settings) -> &'static str {
-    let has_graphite = names_backend(settings, b"graphite");
-    let has_console = names_backend(settings, b"console");
-    match (has_graphite, has_console) {
-        (true, true) => "graphite,console",
-        (true, false) => "graphite",
-        (false, true) => "console",
-        (false, false) => "none",
+fn backends_of(settings: &Settings) -> Line {
+    let mut names = Line::new();
+    for &kind in &BACKENDS {
+        if names_backend(settings, kind.name().as_bytes()) {
+            if !names.is_empty() {
+                push_fitting(b",", &mut names);
+            }
+            push_fitting(kind.name().as_bytes(), &mut names);
+        }
     }
+    if names.is_empty() {
+        push_fitting(b"none", &mut names);
+    }
+    names
 }
 
 /// Tells where a text of so many bytes is too long for the outlet of a backend.
@@ -245,11 +257,10 @@ fn tell_outlets<L: Log>(log: &L, settings: &Settings) {
     if settings.outlets() == 0 {
         return;
     }
-    if names_backend(settings, b"graphite") {
-        tell_outlet(log, settings, "graphite", full_graphite_text(settings));
-    }
-    if names_backend(settings, b"console") {
-        tell_outlet(log, settings, "console", full_console_text(settings));
+    for &kind in &BACKENDS {
+        if names_backend(settings, kind.name().as_bytes()) {
+            tell_outlet(log, settings, kind.name(), full_text(kind, settings));
+        }
     }
 }
 
@@ -271,12 +282,13 @@ fn places_of(settings: &Settings, mgmt_port: u32) -> Places<'_> {
 
 /// Tells that a server has all open, and whose outlets are small for it.
 pub fn tell_server<L: Log>(log: &L, settings: &Settings) {
+    let backends = backends_of(settings);
     server_started(
         log,
         &ServerParts {
             version: VERSION,
             places: places_of(settings, settings.mgmt_port()),
-            backends: backends_of(settings),
+            backends: backends.as_slice(),
             shards: settings.shards(),
             rows: settings.rows(),
             entries: settings.entries(),

@@ -1,4 +1,5 @@
 pub mod Answers
+pub mod Backends
 pub mod CountSink
 pub mod Intervals
 pub mod Places

@@ -1,6 +1,7 @@
 ghost use Rattle.std.specs.Prelude.{◌≡◌, OnOk, OnErr};
 ghost use Rattle.sd_model_outside.specs.Outside.{HasFailed, begun, ended, telling};
 
+use crate::backends::PerBackend;
 use crate::opens::{Failed, Opens};
 use crate::sink::Sink;
 
@@ -25,11 +26,12 @@ pub trait Backend: Sink + Opens {
         ensures failed { OnErr result (HasFailed (Self.seen self.old) (Self.seen self.new)) };
 }
 
-/// The backends that a record is written to, each with whether it is used.
-#[derive(Drop)]
-pub struct Backs<B> {
-    pub graphite: B,
-    pub console: B,
-    pub graphite_used: bool,
-    pub console_used: bool,
+/// A backend, and whether it is used.
+#[derive(Clone, Copy, Debug, Drop)]
+pub struct Back<B> {
+    pub object: B,
+    pub is_used: bool,
 }
+
+/// The backends that a record is written to.
+pub type Backs<B> = PerBackend<Back<B>>;

@@ -7,6 +7,7 @@
 
 mod address;
 mod backend;
+mod backends;
 mod beat;
 mod calls;
 mod clock;
@@ -22,7 +23,8 @@ mod unfailing;
 mod wire;
 
 pub use address::{Address, Name};
-pub use backend::{Backend, Backs};
+pub use backend::{Back, Backend, Backs};
+pub use backends::{BACKEND_COUNT, BACKENDS, BackendKind, PerBackend, TryBackend, VisitBackend};
 pub use beat::{Beat, Interval, Tick};
 pub use calls::{fault, opening_fault};
 pub use clock::Clock;

@@ -6,7 +6,7 @@ use Rattle.sd_model_record.specs.Desk.{add_tally, no_tally}
 use Rattle.sd_shared_desk.specs.Counts.{Part, HasCounted, plus, of_tally, of_sends}
 use Rattle.sd_shared_desk.proofs.CountLemmas.{counted_next, nothing_counted}
 use Rattle.sd_model_shard.specs.Shard.{last_number}
-use Rattle.sd_desk.specs.Sums.{Count, Amounts, TotalPackets, TotalLines, TotalBad, TotalDropped, TakenPackets, TakenLines, TakenBad, TakenDropped, RoundsMade, GraphiteFaults, ConsoleFaults, RepeaterFaults, AdminFaults}
+use Rattle.sd_desk.specs.Sums.{Count, Amounts, TotalPackets, TotalLines, TotalBad, TotalDropped, TakenPackets, TakenLines, TakenBad, TakenDropped, RoundsMade, Faults, RepeaterFaults, AdminFaults}
 
 -- amounts that are the same, up to the last count
 pub record AreAlike (a b : Amounts) : Type 0 where
@@ -32,8 +32,7 @@ together s t m n TakenLines = omega arith
 together s t m n TakenBad = omega arith
 together s t m n TakenDropped = omega arith
 together s t m n RoundsMade = omega arith
-together s t m n GraphiteFaults = omega arith
-together s t m n ConsoleFaults = omega arith
+together s t m n (Faults b) = omega arith
 together s t m n RepeaterFaults = omega arith
 together s t m n AdminFaults = omega arith
 

@@ -24,10 +24,11 @@ use Rattle.sd_model_record.specs.Admin as admin
 use Rattle.sd_command.proofs.CommandLemmas.{idle_line, state_past}
 use Rattle.sd_model_settings.specs.Settings.{Settings, plan_of, names_of}
 use Rattle.sd_model_replay.specs.Replay.{Bounds, bounds_of, is_used, targets_of, Played, IsOutcome, no_marks, home_of, replies_to, states_after, moment_of, desk_after_line, Run, first_run, form_of, play, run_of, deliveries}
-use Rattle.sd_model_record.specs.Backends.{Backend, mark_of, text_of}
+use Rattle.sd_model_outside.specs.Backend.{Backend, at_backend}
+use Rattle.sd_model_record.specs.Backends.{text_of}
 use Rattle.sd_model_replay.specs.Script.{ScriptCommand, Packet, Flush, Admin, end_word, spelled, script_text, IsLegal, ScriptFlaw, Faulty, Begins, IsUndecided}
 use Rattle.sd_model_serve.specs.Rounds.{Round, round_text}
-use Rattle.sd_model_replay.specs.AccountingTheorem.{output_in, output_of, summed, totals_after, Seen, ReplayTrace, AccountingTheorem, seen_at, Complete, Faulted, ReadFailed, WriteFailed, LimitReached}
+use Rattle.sd_model_replay.specs.AccountingTheorem.{output_in, output_of, summed, totals_after, Seen, ReplayTrace, AccountingTheorem, Complete, Faulted, ReadFailed, WriteFailed, LimitReached}
 use Rattle.sd_model_record.specs.Totals.{Total, totals_of, totals_text}
 use Rattle.sd_replay.specs.Replayed.{Replayed}
 use Rattle.sd_law_record.proofs.AccountingLemmas.{are_accounted}
@@ -237,8 +238,8 @@ module _ (settings : Settings) (some : 0 < settings.sizes.shards) (script left l
   -- a flush more: the shards are swapped, the tally is taken, and each backend was given the text, as its mark says
   pub flush_more : (ts : ℕ) (marks : Marks) → Reads left (spelled (Flush ts)) left' → IsLegal settings.sizes.receivers (Flush ts)
       → begun ≡ (before (record { command = Flush ts; outcome = record { marks = marks; failed = [] } })).desk
-      → ((back : Backend) → FitsUse (is_used settings back) (mark_of back marks))
-      → ((back : Backend) → AfterMark (mark_of back marks) (text_of (names_of settings) back (record_of (plan_of settings) (map (λ i. table_of (state_at group i)) (numbers group)) begun.tally ts)) (new back) (new' back))
+      → ((back : Backend) → FitsUse (is_used settings back) (at_backend marks back))
+      → ((back : Backend) → AfterMark (at_backend marks back) (text_of (names_of settings) back (record_of (plan_of settings) (map (λ i. table_of (state_at group i)) (numbers group)) begun.tally ts)) (new back) (new' back))
       → ((i : ℕ) → i < length group.states → state_at group' i ≡ after_swap group.policy (state_at group i)) → desk' ≡ with_round begun marks
       → at' ≡ min (at + length (spelled (Flush ts))) last_count → has' ≡ has → More (record { command = Flush ts; outcome = record { marks = marks; failed = [] } })
   flush_more ts marks text legal same_desk uses after each d a kept =
@@ -248,8 +249,8 @@ module _ (settings : Settings) (some : 0 < settings.sizes.shards) (script left l
       let record_in : ℕ → (ℕ → State) → Desk → Record = λ n states e. record_of (plan_of settings) (map (λ i. table_of (states i)) (range_with_len 0 n)) e.tally ts in
       let same_record : record_in (length group.states) (state_at group) begun ≡ record_in settings.sizes.shards run.shards run.desk =
       ap (λ n. record_in n (state_at group) begun) (count_by settings group by) ∙ ap (λ states. record_in settings.sizes.shards states begun) (states_before p) ∙ ap (record_in settings.sizes.shards run.shards) same_desk in
-      let delivered : (back : Backend) → AfterMark (mark_of back marks) (round_text (form_of settings) back r) (new back) (new' back) =
-      λ back. subst (λ x. AfterMark (mark_of back marks) (text_of (names_of settings) back x) (new back) (new' back)) same_record (after back) in
+      let delivered : (back : Backend) → AfterMark (at_backend marks back) (round_text (form_of settings) back r) (new back) (new' back) =
+      λ back. subst (λ x. AfterMark (at_backend marks back) (text_of (names_of settings) back x) (new back) (new' back)) same_record (after back) in
       one_more p text legal (refl, uses)
       (λ back. subst (λ ds. AfterDeliveries ds (old back) (new' back)) (sym (deliveries-push settings back so_far.played p))
       (AfterDeliveries-push (deliveries settings back so_far.played) (delivery_of settings back r) (old back) (new back) (new' back) (so_far.texts back) (delivered back)))
@@ -280,7 +281,7 @@ module _ (settings : Settings) (some : 0 < settings.sizes.shards) (script left l
       ∙ ap (λ (e : Desk). output_in settings (record { shards = (before (line_played moment line)).shards; desk = e }) (Admin moment line)) same_desk
 
 -- How a replay ends, where these bytes were read behind what it has executed.
-module _ (settings : Settings) (old new : Seen) (left : Content) (group : Group) (desk : Desk) (at turn : ℕ) (had has : Backend → Object) (before : (back : Backend) → had back ≡ seen_at back old) (now : (back : Backend) → has back ≡ seen_at back new)
+module _ (settings : Settings) (old new : Seen) (left : Content) (group : Group) (desk : Desk) (at turn : ℕ) (had has : Backend → Object) (before : (back : Backend) → had back ≡ old.backs back) (now : (back : Backend) → has back ≡ new.backs back)
     (so_far : Progress settings old.script.content left had has old.wires new.wires (state_at group) desk at turn) (ahead : List ℕ) (behind : Reads left ahead new.script.content) (used : Used old.script new.script) where
   abbrev trace : ReplayTrace
   trace = record { played = so_far.played; ahead = ahead }
@@ -297,7 +298,7 @@ module _ (settings : Settings) (old new : Seen) (left : Content) (group : Group)
     submitted = λ i below. arrivals-history_at (bounds_of settings) i so_far.played;
     state = λ i below. state-history_at (bounds_of settings) i so_far.played;
     used = so_far.used;
-    texts = λ back. subst (λ o. AfterDeliveries (deliveries settings back so_far.played) (seen_at back old) o) (now back)
+    texts = λ back. subst (λ o. AfterDeliveries (deliveries settings back so_far.played) (old.backs back) o) (now back)
         (subst (λ o. AfterDeliveries (deliveries settings back so_far.played) o (has back)) (before back) (so_far.texts back));
     sends = so_far.sends;
   }

@@ -14,7 +14,8 @@ ghost use Rattle.sd_replay.specs.Start.{start_in};
 ghost use Rattle.sd_replay.specs.Sent.{IsPlayed};
 ghost use Rattle.sd_replay.specs.Totals.{totals_of_group};
 ghost use Rattle.sd_admin.specs.Totals.{totals_view};
-ghost use Rattle.sd_model_record.specs.Backends.{Graphite, Console};
+ghost use Rattle.sd_model_outside.specs.Backend.{Backend};
+ghost use Rattle.sd_outside.specs.Backends.{uses};
 ghost use Rattle.sd_model_text.specs.Lines.{pieces, bad_of};
 
 use crate::fault::fault_at;
@@ -135,14 +136,12 @@ pub fn replay<R: Source, O: Sink, B: Backend, L: Wire>(
     wires: &mut [L],
 ) -> ReplayEnd
     requires room { room ≡ sizing_of settings.now }
-    requires graphite_used { backs.old.graphite_used ≡ is_used settings.now Graphite }
-    requires console_used { backs.old.console_used ≡ is_used settings.now Console }
+    requires uses { (b : Backend) → uses backs.old b ≡ is_used settings.now b }
     requires wires { length (targets_of settings.now) ≤ length wires.old }
     ensures end { Replayed settings.now (end_of result)
         (seen_of R.seen O.seen B.seen L.seen script.old output.old backs.old wires.old)
         (seen_of R.seen O.seen B.seen L.seen script.new output.new backs.new wires.new) }
-    ensures graphite_flag { backs.new.graphite_used ≡ backs.old.graphite_used }
-    ensures console_flag { backs.new.console_used ≡ backs.old.console_used }
+    ensures same_use { (b : Backend) → uses backs.new b ≡ uses backs.old b }
 {
     let ReplayRoom {
         mut shards,

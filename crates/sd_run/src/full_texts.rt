@@ -1,5 +1,5 @@
 use sd_config::Settings;
-use sd_outside::Name;
+use sd_outside::{BackendKind, Name};
 use sd_plan::{Calculated, TimerClass};
 
 /// How many bytes a line of Graphite's text is estimated to have beside what stands before a key and behind a path: 30 of the key, 8 of
@@ -98,14 +98,22 @@ fn path_prefix(settings: &Settings) -> u64 {
 
 /// How many bytes Graphite's text of a flush is estimated to have where all rows of all tables are in use, as the kind of row with the
 /// most lines by the settings, with keys of 30 bytes and numbers of 7.
-pub fn full_graphite_text(settings: &Settings) -> u64 {
+fn full_graphite_text(settings: &Settings) -> u64 {
     let line = GRAPHITE_LINE
         .saturating_add(path_prefix(settings))
         .saturating_add(dotted(settings.global_suffix()));
     full_lines(settings).saturating_mul(line)
 }
 
-/// The same of the console's text.
-pub fn full_console_text(settings: &Settings) -> u64 {
+/// The same of a text that has the keys as they came.
+fn full_console_text(settings: &Settings) -> u64 {
     full_lines(settings).saturating_mul(CONSOLE_LINE)
+}
+
+/// The same of the text for a backend.
+pub fn full_text(kind: BackendKind, settings: &Settings) -> u64 {
+    match kind {
+        BackendKind::Graphite => full_graphite_text(settings),
+        _ => full_console_text(settings),
+    }
 }

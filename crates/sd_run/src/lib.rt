@@ -9,6 +9,6 @@ mod full_texts;
 mod object_types;
 mod settings;
 
-pub use full_texts::{full_console_text, full_graphite_text};
+pub use full_texts::full_text;
 pub use object_types::{ObjectTypes, ObjectTypesOf};
 pub use settings::{limits_of, names_backend, policy_of, targets_of};

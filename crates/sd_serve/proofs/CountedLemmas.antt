@@ -1,12 +1,12 @@
 -- What a run counts, as its receivers, its rounds and its sessions add up.
-use Rattle.std.proofs.Common.{◌≡◌, ℕ, ◌+◌, Bool, true, false, List, [], ◌∷◌, length, flat_map, refl, ap, ◌∙◌, arith, length-append}
-use Rattle.std.specs.Prelude.{min, slice_index, sum_by, ◌==◌, if◌then◌else◌}
+use Rattle.sd_model_outside.specs.Backend.{at_backend}
+use Rattle.std.proofs.Common.{◌≡◌, ℕ, ◌+◌, Bool, true, false, List, [], ◌∷◌, length, flat_map, map, refl, ap, ◌∙◌, arith, length-append}
+use Rattle.std.specs.Prelude.{min, sum_by, ◌==◌, if◌then◌else◌}
 use Rattle.std.proofs.lemmas.List.Sums.{sum_by-cons, sum_by-append}
 use Rattle.sd_model_text.specs.Lines.{pieces, bad_of}
 use Rattle.sd_model_outside.specs.Uses.{fault_of}
 use Rattle.sd_model_shard.specs.Shard.{Limits, Policy, State, Event, Submit, Swap, Delete, Dump, Look, step, last_number}
 use Rattle.sd_model_shard.specs.History.{Act, History, LegalFrom, after, dropped_in, summed_by}
-use Rattle.sd_model_record.specs.Backends.{Graphite, Console, mark_of}
 use Rattle.sd_shared_desk.specs.Counts.{Part, HasCounted, plus, share, of_tally, of_sends, of_sessions}
 use Rattle.sd_shared_desk.proofs.CountLemmas.{nothing_counted}
 use Rattle.sd_model_serve.specs.Receiving.{acts_by, events_of, summed_in, tally_of, ReceiverTrace}
@@ -19,11 +19,26 @@ use Rattle.sd_model_run.specs.Run.{ServerTrace, counts_in, rounds_in}
 use Rattle.sd_model_run.proofs.CountedLemmas.{sum_by-alike, sum_by-nothing}
 use Rattle.sd_model_stream.proofs.Short.{faults_in_lines}
 use Rattle.sd_model_serve.proofs.Short.{events_by, failed_sends}
-use Rattle.sd_desk.specs.Sums.{Count, Amounts, TotalPackets, TotalLines, TotalBad, TotalDropped, TakenPackets, TakenLines, TakenBad, TakenDropped, RoundsMade, GraphiteFaults, ConsoleFaults, RepeaterFaults, place}
+use Rattle.sd_desk.specs.Sums.{Count, Amounts, TotalPackets, TotalLines, TotalBad, TotalDropped, TakenPackets, TakenLines, TakenBad, TakenDropped, RoundsMade, Faults, RepeaterFaults, AdminFaults, counts}
 
 -- what a run counts of a number
 abbrev pub counts_of : ℕ → ServerTrace → Amounts
-counts_of shards c = λ count. slice_index (counts_in shards c) (place count)
+counts_of shards c TotalPackets = length (flat_map (λ r. r.read) c.receiver_traces)
+counts_of shards c TotalLines = sum_by (λ d. length (pieces d)) (flat_map (λ r. r.read) c.receiver_traces) + sum_by pieces_of_line (flat_map (λ l. lines_in l.streams) c.line_traces)
+counts_of shards c TotalBad = sum_by bad_of (flat_map (λ r. r.read) c.receiver_traces) + sum_by bad_of_line (flat_map (λ l. lines_in l.streams) c.line_traces)
+counts_of shards c TotalDropped = summed_in dropped_in shards c.histories
+counts_of shards c TakenPackets = sum_by (λ r. r.tally.packets) (rounds_in c)
+counts_of shards c TakenLines = sum_by (λ r. r.tally.lines) (rounds_in c)
+counts_of shards c TakenBad = sum_by (λ r. r.tally.bad) (rounds_in c)
+counts_of shards c TakenDropped = sum_by (λ r. r.tally.dropped) (rounds_in c)
+counts_of shards c RoundsMade = length (rounds_in c)
+counts_of shards c (Faults b) = sum_by (λ r. fault_of (at_backend r.marks b)) (rounds_in c)
+counts_of shards c RepeaterFaults = sum_by (λ r. failed_sends r.sendings) c.receiver_traces
+counts_of shards c AdminFaults = c.failures + faults_among c.visits + sum_by faults_in_lines c.line_traces
+
+-- these are the counts of the run, in order
+pub counts_are : (shards : ℕ) (c : ServerTrace) → counts_in shards c ≡ map (counts_of shards c) counts
+counts_are shards c = refl
 
 -- one of each is as many as there are
 pub sum_by-ones : {X : Type 0} (f : X → ℕ) (xs : List X) → ((x : X) → f x ≡ 1) → sum_by f xs ≡ length xs
@@ -88,10 +103,7 @@ module _ (form : RecordForm) (c : ServerTrace) where
   counts_add_up drops lines_read is TakenBad = let all = in_rounds TakenBad (λ r. r.tally.bad) (λ r. omega arith) in omega (arith, all)
   counts_add_up drops lines_read is TakenDropped = let all = in_rounds TakenDropped (λ r. r.tally.dropped) (λ r. omega arith) in omega (arith, all)
   counts_add_up drops lines_read is RoundsMade = let all = sum_by-ones (λ (r : Round). of_round r RoundsMade) (rounds_in c) (λ r. omega arith) in omega (arith, all)
-  counts_add_up drops lines_read is GraphiteFaults =
-      let all = in_rounds GraphiteFaults (λ r. fault_of (mark_of Graphite r.marks)) (λ r. omega arith) in omega (arith, all)
-  counts_add_up drops lines_read is ConsoleFaults =
-      let all = in_rounds ConsoleFaults (λ r. fault_of (mark_of Console r.marks)) (λ r. omega arith) in omega (arith, all)
+  counts_add_up drops lines_read is (Faults b) = let all = in_rounds (Faults b) (λ r. fault_of (at_backend r.marks b)) (λ r. omega arith) in omega (arith, all)
   counts_add_up drops lines_read is count = let none = no_rounds count (λ r. refl) in omega (arith, none)
 
 -- what one receiver counts, with so many drops

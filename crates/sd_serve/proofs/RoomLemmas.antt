@@ -19,7 +19,7 @@ use Rattle.sd_serve.specs.PostRooms.{IsBatched, IsFitted, own_in, seat_in}
 use Rattle.sd_serve.specs.Services.{AreNew, IsNewLine}
 use Rattle.sd_serve.specs.declared.line_post.LinePost.{LinePost}
 use Rattle.sd_serve.specs.declared.line_post.LineRoom.{LineRoom}
-use Rattle.sd_flush.specs.declared.per_backend.PerBackend.{PerBackend}
+use Rattle.sd_outside.specs.declared.backends.PerBackend.{PerBackend}
 use Rattle.sd_serve.specs.declared.out_room.OutRoom.{OutRoom}
 
 -- as many as have numbers

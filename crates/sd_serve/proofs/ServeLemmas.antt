@@ -15,7 +15,7 @@ use Rattle.sd_model_settings.specs.Settings.{Names}
 use Rattle.sd_model_settings.specs.Settings as file
 use Rattle.sd_model_shard.specs.History.{History, state_after, dropped_in, summed_by}
 use Rattle.sd_model_shard.specs.Shard.{empty_state, last_number}
-use Rattle.sd_model_record.specs.Backends.{Backend, mark_of}
+use Rattle.sd_model_outside.specs.Backend.{Backend, at_backend}
 use Rattle.sd_model_serve.specs.Receiving.{CountsDatagrams, administrator, events_of, summed_in, EndsFlusher, events_in, acts_in}
 use Rattle.sd_pool.specs.Adding.{Adds, JoinsAs}
 use Rattle.sd_model_record.specs.Totals.{Among, IsKeeperCall, numbers_in}
@@ -31,11 +31,12 @@ use Rattle.sd_serve.proofs.CallerLemmas.{ran_by_callers}
 use Rattle.sd_model_run.specs.Run.{ServerTrace, RunSettings, brought_in, counts_in, HasOneDesk, IsRun, Objects}
 use Rattle.sd_model_stream.specs.Streams.{CountsReads, LineTrace}
 use Rattle.sd_model_run.proofs.CountedLemmas.{sum_by-across, sum_by-range}
-use Rattle.sd_serve.proofs.CountedLemmas.{counts_add_up, counts_of, no_drops, swaps_drop_nothing}
+use Rattle.sd_serve.proofs.CountedLemmas.{counts_add_up, counts_are, counts_of, no_drops, swaps_drop_nothing}
 use Rattle.sd_serve.proofs.RunLemmas.{run_accounted}
 use Rattle.sd_outside.specs.declared.datagrams.Ended.{Ended}
 use Rattle.sd_outside.specs.declared.datagrams.Ended.TheVariants as ended
-use Rattle.sd_outside.specs.declared.backend.Backs.{Backs}
+use Rattle.sd_outside.specs.declared.backend.Back.{Back}
+use Rattle.sd_outside.specs.declared.backends.PerBackend.{PerBackend}
 use Rattle.sd_plan.specs.Plan.{plan_view}
 use Rattle.sd_plan.specs.declared.reckoning.Reckoning.{Reckoning}
 use Rattle.sd_pool.specs.Along.{Pairs}
@@ -49,7 +50,8 @@ use Rattle.sd_rows.specs.declared.row.Row.{Row}
 use Rattle.sd_shared.specs.declared.shared.Shared.{Shared}
 use Rattle.sd_shared_desk.specs.Shared.{OwnSeat as DeskSeat, number_of_seat, part_of, seats_of, start_of}
 use Rattle.sd_shared_desk.specs.declared.shared_desk.SharedDesk.{SharedDesk}
-use Rattle.sd_flush.specs.Delivery.{GivesBackends, back_of, uses}
+use Rattle.sd_delivery.specs.Delivery.{GivesBackends}
+use Rattle.sd_outside.specs.Backends.{back_of, uses}
 use Rattle.sd_flush.specs.Flushing.{EndsSo, MakesRoundAt, form_of}
 use Rattle.sd_flush.proofs.RoundLemmas.{round_called, round_counted, swapped_next}
 use Rattle.sd_receive.specs.Posts.{ended_in}
@@ -76,7 +78,9 @@ use Rattle.sd_model_run.proofs.Short.{AreReceiverTraces, any_buffers}
 use Rattle.sd_model_stream.proofs.Short.{brought_in_lines, reads_in}
 use Rattle.sd_model_serve.proofs.Short.{events_by, brought_by}
 use Rattle.sd_model_record.proofs.Short.{IsDeskHistory}
-use Rattle.sd_desk.specs.Sums.{Count, number_of, TotalPackets, TotalLines, TotalBad, TotalDropped, TakenPackets, TakenLines, TakenBad, TakenDropped, RoundsMade, GraphiteFaults, ConsoleFaults, RepeaterFaults, AdminFaults}
+use Rattle.sd_desk.specs.Sums.{Count, Amounts, RoundsMade, TakenBad, TakenDropped, TakenLines, TakenPackets, TotalBad, TotalDropped, TotalLines, TotalPackets, counts, number_of}
+use Rattle.sd_desk.proofs.SumLemmas.{numbers_are as numbers_by_name}
+use Rattle.std.proofs.Math.Path.{fun_ext}
 
 -- the end of the flusher, as the definitions have it
 flusher_as : (asked : ℕ) (end : Ended) (beat beat_now : Object) (made : ℕ) → EndsSo asked end beat beat_now made → EndsFlusher asked (end_of end) beat beat_now made
@@ -125,7 +129,7 @@ module _ {D L P B E S G C : Type 0} (see : Sights D L P B E S) (shared : Shared 
     pub flushes : FlushesThrough form (uses old.objects.backs.now) (any_buffers (outlets_of sizing)) (outlets_of sizing) asked (own_at old.services.flusher.seat) (own_at new.services.flusher.seat) (part_of old.services.flusher.own) (part_of new.services.flusher.own)
         (back_of see.back old.objects.backs.now) (back_of see.back new.objects.backs.now) (see.beat old.objects.beat.now) (see.beat new.objects.beat.now) result.ends.flusher result.outs
     pub post : FlusherPost
-    pub backs : Backs B
+    pub backs : PerBackend (Back B)
     pub ts : ℕ
     pub marks : Marks
     pub waiting : List (List (Option Row))
@@ -137,7 +141,7 @@ module _ {D L P B E S G C : Type 0} (see : Sights D L P B E S) (shared : Shared 
     pub start : says (start_of desk)
 
   -- what a run of these terms goes by
-  abbrev run_settings_by : Backs B → RunSettings
+  abbrev run_settings_by : PerBackend (Back B) → RunSettings
   run_settings_by backs = record { limits = limits_of pool; policy = policy_of pool; form = form; uses = uses backs; outlets = outlets_of sizing; settings = settings; receivers = sizing.receivers; wires = sizing.wires; streams = sizing.streams; run_flushes = asked }
 
   module _ (t : Reports) where
@@ -217,7 +221,7 @@ module _ {D L P B E S G C : Type 0} (see : Sights D L P B E S) (shared : Shared 
 
     delivered : (b : Backend) → AfterDeliveries ((t.flushes.outlet_traces b).queued ++ round_deliveries form b rounds) (back_of see.back t.old.objects.backs.now b) (back_of see.back t.backs b)
     delivered b =
-        let delivery : Round → Delivery = λ r. record { text = round_text form b r; mark = mark_of b r.marks } in
+        let delivery : Round → Delivery = λ r. record { text = round_text form b r; mark = at_backend r.marks b } in
         let queued = (t.flushes.outlet_traces b).queued in
         let ticked = round_deliveries form b t.flushes.rounds in
         let order : (queued ++ ticked) ++ delivery t.last.round ∷ [] ≡ queued ++ round_deliveries form b rounds =
@@ -333,9 +337,9 @@ module _ {D L P B E S G C : Type 0} (see : Sights D L P B E S) (shared : Shared 
         omega (arith, sums, both, submitted, first, second, receivers, line, by_flusher, by_keeper, no_part, no_admin, whole)
 
     all_counted : numbers_in t.result.desk ≡ map (λ n. min n last_number) (counts_in (shards_of pool) trace)
-    all_counted = λ i.
-        counted TotalPackets i ∷ counted TotalLines i ∷ counted TotalBad i ∷ counted TotalDropped i ∷ counted TakenPackets i ∷ counted TakenLines i ∷ counted TakenBad i
-        ∷ counted TakenDropped i ∷ counted RoundsMade i ∷ counted GraphiteFaults i ∷ counted ConsoleFaults i ∷ counted RepeaterFaults i ∷ counted AdminFaults i ∷ []
+    all_counted =
+        numbers_by_name t.result.desk ∙ ap (λ (amounts : Amounts). map amounts counts) (fun_ext counted)
+        ∙ ap (map (λ n. min n last_number)) (sym (counts_are (shards_of pool) trace))
 
     balanced : IsBalanced t.result.desk
     balanced =
@@ -425,7 +429,7 @@ module _ {D L P B E S G C : Type 0} (see : Sights D L P B E S) (shared : Shared 
       };
       last = (t.reported_so.0, t.reported_so.1, t.last.second ∙ t.reported_so.2 ∙ ap (λ (o : Option ℕ). option_map_or (λ second. max second t.reported_so.0) o t.reported_so.0) t.flushes.last);
       used = t.flushes.fits;
-      used_last = λ b. subst (λ (u : Bool). FitsUse u (mark_of b t.last.round.marks)) (t.did.same_use b) (t.last.made.given.used b);
+      used_last = λ b. subst (λ (u : Bool). FitsUse u (at_backend t.last.round.marks b)) (t.did.same_use b) (t.last.made.given.used b);
       through_outlets = t.flushes.through_outlets;
       delivered = delivered;
       visited = t.did.serves.keeps.served;

@@ -1,4 +1,5 @@
 -- What the flusher left, with outlets and without.
+use Rattle.sd_model_outside.proofs.BackendLemmas.{at_each}
 use Rattle.std.proofs.Common.{◌≡◌, ℕ, ◌+◌, ◌≤◌, Bool, true, false, List, [], ◌∷◌, ◌++◌, length, map, min, refl, sym, ap, subst, ◌∙◌, arith, inl, inr, length-append}
 use Rattle.std.specs.Prelude.{Some, None, Result, Ok, Err, ⊤}
 use Rattle.std.specs.List.{AllByRecursion}
@@ -7,7 +8,7 @@ use Rattle.sd_model_outside.specs.Uses.{Delivery, AfterDeliveries, FitsUse, miss
 use Rattle.sd_model_outside.specs.Uses as deliveries
 use Rattle.sd_model_outside.specs.Outside.{Object, last_count}
 use Rattle.sd_model_shard.specs.History.{History}
-use Rattle.sd_model_record.specs.Backends.{Backend, Graphite, Console, mark_of}
+use Rattle.sd_model_outside.specs.Backend.{Backend, at_backend}
 use Rattle.sd_shared_desk.specs.Counts.{Part}
 use Rattle.sd_model_record.specs.Desk.{Marks}
 use Rattle.sd_model_serve.specs.Rounds.{RecordForm, MarksFit, Round, round_deliveries, round_text, OutletRoom, AreChosen, chosen, OutletTrace, IsOutletTrace}
@@ -16,18 +17,20 @@ use Rattle.sd_outlet.specs.declared.outlet.Outlet.{Outlet}
 use Rattle.sd_outlet.specs.declared.worked.Worked.{Worked}
 use Rattle.sd_outlet.specs.Feed.{IsFeedOf, buffers, bytes_of, sends_of, sent}
 use Rattle.sd_outlet.specs.Worked.{EachUsed, HasWorked}
-use Rattle.sd_outside.specs.declared.backend.Backs.{Backs}
-use Rattle.sd_flush.specs.Delivery.{GivesBackends, back_of, uses}
+use Rattle.sd_outside.specs.declared.backend.Back.{Back}
+use Rattle.sd_outside.specs.declared.backends.PerBackend.{PerBackend}
+use Rattle.sd_delivery.specs.Delivery.{GivesBackends}
+use Rattle.sd_outside.specs.Backends.{back_of, uses}
 use Rattle.sd_flush.specs.Flushing.{Flushes}
-use Rattle.sd_flush.specs.Leads.{AreReadyLeads, GivesOutlets, Offers, StopsLeads, feed_in, lead_at, no_marks, offered_to, outlet_in as outlet_of}
+use Rattle.sd_delivery.specs.Leads.{AreReadyLeads, GivesOutlets, Offers, StopsLeads, feed_in, lead_at, no_marks, offered_to, outlet_in as outlet_of}
 use Rattle.sd_flush.specs.Made.{GivesRounds}
-use Rattle.sd_flush.specs.Offers.{AfterOffer, AfterOffers, HasOffered, Offer, queued_by, texts_queued}
-use Rattle.sd_flush.specs.PerBackend.{at}
+use Rattle.sd_delivery.specs.Offers.{AfterOffer, AfterOffers, HasOffered, Offer, queued_by, texts_queued}
+use Rattle.sd_outside.specs.Backends.{at}
 use Rattle.sd_flush.specs.declared.flushed.Flushed.{Flushed}
-use Rattle.sd_flush.specs.declared.outlets.Leads.{Leads}
-use Rattle.sd_flush.specs.declared.outlets.Skip.{Skip}
-use Rattle.sd_flush.specs.declared.outlets.Skip.TheVariants.{Full, Long, Spent}
-use Rattle.sd_flush.specs.declared.per_backend.PerBackend.{PerBackend}
+use Rattle.sd_delivery.specs.declared.outlets.Leads.{Leads}
+use Rattle.sd_delivery.specs.declared.outlets.Skip.{Skip}
+use Rattle.sd_delivery.specs.declared.outlets.Skip.TheVariants.{Full, Long, Spent}
+use Rattle.sd_outside.specs.declared.backends.PerBackend.{PerBackend}
 use Rattle.sd_flush.proofs.DeliveryLemmas.{given_deliveries, marks_fit}
 use Rattle.sd_flush.proofs.OfferLemmas.{effects, few_queued, given_offers, none_marked}
 use Rattle.sd_serve.specs.OutRoom.{HasOutRooms, outlet_in, room_seen}
@@ -38,13 +41,13 @@ use Rattle.sd_serve.specs.declared.outlets.OutCount.{OutCount}
 use Rattle.sd_model_run.proofs.Short.{no_outlet_trace}
 
 -- without outlets all goes straight to the backends
-pub straight : {B : Type 0} (seen : B → Object) (form : RecordForm) (asked : ℕ) (own own_now : ℕ → History) (part part_now : Part) (backs backs_now : Backs B) (beat beat_now : Object) (flushed : Flushed)
+pub straight : {B : Type 0} (seen : B → Object) (form : RecordForm) (asked : ℕ) (own own_now : ℕ → History) (part part_now : Part) (backs backs_now : PerBackend (Back B)) (beat beat_now : Object) (flushed : Flushed)
     → Flushes form (GivesBackends seen) (λ old new. new ≡ old) asked own own_now part part_now backs backs_now beat beat_now flushed → (outlets : Bool) (room : OutletRoom) → HasOutRooms outlets room.buffers room.bytes None
     → FlushesThrough form (uses backs) outlets room asked own own_now part part_now (back_of seen backs) (back_of seen backs_now) beat beat_now flushed None
 straight seen form asked own own_now part part_now backs backs_now beat beat_now flushed h true room has = absurd has
 straight {B} seen form asked own own_now part part_now backs backs_now beat beat_now flushed h false room has =
     let made = h.flushes in
-    let given = subst (λ (b : Backs B). GivesRounds form (GivesBackends seen) made.rounds backs b) (sym h.ended) made.made.given in
+    let given = subst (λ (b : PerBackend (Back B)). GivesRounds form (GivesBackends seen) made.rounds backs b) (sym h.ended) made.made.given in
     record {
       rounds = made.rounds;
       swapped = made.made.swapped;
@@ -113,7 +116,7 @@ with_rounds form b rounds none (d ∷ ds) old new h = (h.0, h.1, with_rounds for
 -- marks of backends that aren't used fit so
 fit_none : (rounds : List Round) → AllByRecursion (λ (r : Round). r.marks ≡ no_marks) rounds → AllByRecursion (MarksFit (λ c. false)) rounds
 fit_none [] h = tt
-fit_none (r ∷ rounds) h = ((λ b. elim b as (λ (b : Backend). mark_of b r.marks ≡ deliveries.NotUsed) [ Graphite ↦ ap (λ (m : Marks). m.graphite) h.0 | Console ↦ ap (λ (m : Marks). m.console) h.0 ]), fit_none rounds h.1)
+fit_none (r ∷ rounds) h = ((λ b. ap (λ (m : Marks). at_backend m b) h.0 ∙ at_each (λ c. deliveries.NotUsed) b), fit_none rounds h.1)
 
 -- no text, no delivery
 no_delivery : (deliveries : List Delivery) (w : Worked) (old new : Object) → map (λ (d : Delivery). d.text) deliveries ≡ [] → AfterDeliveries deliveries old new

@@ -1,11 +1,11 @@
 -- What an outlet's room was opened for, and what is done with its ends.
 use Rattle.std.specs.Prelude.{◌≡◌, ℕ, Bool, true, false, [], Option, Some, None, ⊤}
-use Rattle.sd_model_record.specs.Backends.{Backend}
+use Rattle.sd_model_outside.specs.Backend.{Backend}
 use Rattle.sd_outlet.specs.declared.outlet.Outlet.{Outlet}
 use Rattle.sd_outlet.specs.Drain.{IsDrainOf, got}
 use Rattle.sd_outlet.specs.Feed.{IsFeedOf, IsNew, buffers, bytes_of}
-use Rattle.sd_flush.specs.declared.per_backend.PerBackend.{PerBackend}
-use Rattle.sd_flush.specs.PerBackend.{at}
+use Rattle.sd_outside.specs.declared.backends.PerBackend.{PerBackend}
+use Rattle.sd_outside.specs.Backends.{at}
 use Rattle.sd_serve.specs.declared.out_room.OutRoom.{OutRoom}
 use Rattle.sd_model_serve.specs.Rounds.{OutletRoom}
 

@@ -1,17 +1,17 @@
 -- What a server with outlets needs and leaves before those are closed.
 use Rattle.std.specs.Prelude.{◌≡◌, ℕ, Bool, true, false, []}
 use Rattle.sd_model_outside.specs.Outside.{Object}
-use Rattle.sd_model_record.specs.Backends.{Backend}
+use Rattle.sd_model_outside.specs.Backend.{Backend}
 use Rattle.sd_outlet.specs.declared.drain.Drain.{Drain}
 use Rattle.sd_outlet.specs.declared.outlet.Outlet.{Outlet}
 use Rattle.sd_outlet.specs.declared.worked.Worked.{Worked}
 use Rattle.sd_outlet.specs.Drain.{IsDrainOf, got}
 use Rattle.sd_outlet.specs.Feed.{sent}
 use Rattle.sd_outlet.specs.Worked.{HasWorked}
-use Rattle.sd_flush.specs.Leads.{IsLeadReady, feed_in, is_used, lead_at, outlet_in}
-use Rattle.sd_flush.specs.PerBackend.{at}
-use Rattle.sd_flush.specs.declared.outlets.Leads.{Leads}
-use Rattle.sd_flush.specs.declared.per_backend.PerBackend.{PerBackend}
+use Rattle.sd_delivery.specs.Leads.{IsLeadReady, feed_in, is_used, lead_at, outlet_in}
+use Rattle.sd_outside.specs.Backends.{at}
+use Rattle.sd_delivery.specs.declared.outlets.Leads.{Leads}
+use Rattle.sd_outside.specs.declared.backends.PerBackend.{PerBackend}
 
 -- how many texts of so many rounds are offered at an outlet, by whether its backend is used
 abbrev pub offered_of : Bool → ℕ → ℕ

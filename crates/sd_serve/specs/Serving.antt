@@ -7,7 +7,8 @@ use Rattle.sd_model_shard.specs.History.{state_after}
 use Rattle.sd_model_serve.specs.Receiving as model
 use Rattle.sd_model_serve.specs.Receiving.{LoopEnd, Spent, Enough, LimitReached}
 use Rattle.sd_model_run.specs.Run.{ServerTrace, RunSettings, ServerTheorem, Objects}
-use Rattle.sd_outside.specs.declared.backend.Backs.{Backs}
+use Rattle.sd_outside.specs.declared.backend.Back.{Back}
+use Rattle.sd_outside.specs.declared.backends.PerBackend.{PerBackend}
 use Rattle.sd_outside.specs.declared.datagrams.Ended.{Ended}
 use Rattle.sd_outside.specs.declared.datagrams.Ended.TheVariants as ended
 use Rattle.sd_outside.specs.declared.door.DoorEnd.{DoorEnd}
@@ -15,7 +16,7 @@ use Rattle.sd_outside.specs.declared.door.DoorEnd.TheVariants as closed
 use Rattle.sd_plan.specs.Plan.{plan_view}
 use Rattle.sd_plan.specs.declared.reckoning.Reckoning.{Reckoning}
 use Rattle.sd_pool.specs.Books.{IsBookOf, no_book}
-use Rattle.sd_flush.specs.Delivery.{back_of, uses}
+use Rattle.sd_outside.specs.Backends.{back_of, uses}
 use Rattle.sd_serve.specs.Room.{Sizing, outlets_of}
 use Rattle.sd_serve.specs.Through.{AreCounted, has_counts}
 use Rattle.sd_serve.specs.declared.serving.Served.{Served}
@@ -34,7 +35,7 @@ door_end_of (closed.Stopped rounds) = Enough rounds
 door_end_of (closed.Worn turns) = LimitReached turns
 
 -- what a server of these sizes goes by
-abbrev pub run_settings_in : {B : Type 0} → Sizing → Reckoning → Names → file.Settings → Backs B → ℕ → RunSettings
+abbrev pub run_settings_in : {B : Type 0} → Sizing → Reckoning → Names → file.Settings → PerBackend (Back B) → ℕ → RunSettings
 run_settings_in sizing plan names settings backs run_flushes =
     record {
       limits = sizing.limits;
@@ -50,7 +51,7 @@ run_settings_in sizing plan names settings backs run_flushes =
     }
 
 -- what is seen of the objects of a server
-abbrev pub objects_of : {D L P B E S : Type 0} → (D → Object) → (L → Object) → (P → Object) → (B → Object) → (E → Object) → (S → Object) → List D → List L → P → Backs B → E → S → Objects
+abbrev pub objects_of : {D L P B E S : Type 0} → (D → Object) → (L → Object) → (P → Object) → (B → Object) → (E → Object) → (S → Object) → List D → List L → P → PerBackend (Back B) → E → S → Objects
 objects_of source_seen wire_seen beat_seen back_seen door_seen streams_seen packets wires beat backs door streams =
     record { sources = map source_seen packets; wires = map wire_seen wires; beat = beat_seen beat; backs = back_of back_seen backs; door = door_seen door; streams = streams_seen streams }
 

@@ -4,15 +4,15 @@ use Rattle.std.specs.List.{AllByRecursion}
 use Rattle.sd_model_outside.specs.Uses.{AfterDeliveries, missed, with_ticks}
 use Rattle.sd_model_outside.specs.Outside.{Object, last_count}
 use Rattle.sd_model_shard.specs.History.{History}
-use Rattle.sd_model_record.specs.Backends.{Backend}
+use Rattle.sd_model_outside.specs.Backend.{Backend}
 use Rattle.sd_shared_desk.specs.Counts.{Part, HasCounted}
 use Rattle.sd_pool.specs.Adding.{Adds}
 use Rattle.sd_model_serve.specs.Rounds.{RecordForm, MarksFit, Round, last_second, round_calls, round_deliveries, round_text, swaps_at, OutletRoom, OutletTrace, IsOutletTrace}
 use Rattle.sd_flush.specs.Made.{of_rounds}
 use Rattle.sd_flush.specs.Flushing.{EndsSo}
 use Rattle.sd_flush.specs.declared.flushed.Flushed.{Flushed}
-use Rattle.sd_flush.specs.declared.per_backend.PerBackend.{PerBackend}
-use Rattle.sd_flush.specs.PerBackend.{at}
+use Rattle.sd_outside.specs.declared.backends.PerBackend.{PerBackend}
+use Rattle.sd_outside.specs.Backends.{at}
 use Rattle.sd_serve.specs.declared.outlets.OutCount.{OutCount}
 
 -- whether outlets counted anything: whether there were any

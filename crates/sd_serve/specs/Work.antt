@@ -1,7 +1,7 @@
 -- What the work of each worker needs, and what it leaves.
 use Rattle.std.specs.Prelude.{◌≡◌, ℕ, ◌<◌, ◌^◌, List, [], IfSome, None, ⊤}
 use Rattle.sd_model_outside.specs.Outside.{Object}
-use Rattle.sd_model_record.specs.Backends.{Backend}
+use Rattle.sd_model_outside.specs.Backend.{Backend}
 use Rattle.sd_model_record.specs.Desk.{Marks}
 use Rattle.sd_model_serve.specs.Rounds.{RecordForm}
 use Rattle.sd_pool.specs.declared.pool.Pool.{Pool}
@@ -10,9 +10,9 @@ use Rattle.sd_shared_desk.specs.declared.shared_desk.SharedDesk.{SharedDesk}
 use Rattle.sd_shared_desk.specs.Shared.{number_of_seat, part_of}
 use Rattle.sd_outlet.specs.Drain.{IsDrainOf, got}
 use Rattle.sd_outlet.specs.Worked.{HasWorked}
-use Rattle.sd_flush.specs.Delivery.{GivesBackends}
+use Rattle.sd_delivery.specs.Delivery.{GivesBackends}
 use Rattle.sd_flush.specs.Flushing.{Flushes, form_of}
-use Rattle.sd_flush.specs.Leads.{AreReadyLeads, GivesOutlets, StopsLeads}
+use Rattle.sd_delivery.specs.Leads.{AreReadyLeads, GivesOutlets, StopsLeads}
 use Rattle.sd_flush.specs.declared.flushed.Flushed.{Flushed}
 use Rattle.sd_flush.specs.declared.post.FlusherPost.{FlusherPost}
 use Rattle.sd_flush.specs.Tables.{IsFlusherPost}

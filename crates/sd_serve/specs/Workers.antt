@@ -2,7 +2,7 @@
 use Rattle.std.specs.Prelude.{◌≡◌, ℕ, ◌<◌, ◌^◌, List, All, IfSome, length, slice_index_or}
 use Rattle.sd_model_outside.specs.Outside.{Object}
 use Rattle.sd_model_settings.specs.Settings.{Settings}
-use Rattle.sd_model_record.specs.Backends.{Backend}
+use Rattle.sd_model_outside.specs.Backend.{Backend}
 use Rattle.sd_pool.specs.Pool.{own_at, shards_of}
 use Rattle.sd_shared.specs.declared.shared.Shared.{Shared}
 use Rattle.sd_shared_desk.specs.Shared.{number_of_seat, part_of}
@@ -11,7 +11,7 @@ use Rattle.sd_receive.specs.declared.post.Post.{Post}
 use Rattle.sd_shared.specs.DoorKeeper.{EndsDoorKeeper}
 use Rattle.sd_session.specs.Doors.{ServesSessions}
 use Rattle.sd_serve.specs.LinePost.{AreLinesReadBy, IsLineReady}
-use Rattle.sd_flush.specs.Delivery.{uses}
+use Rattle.sd_outside.specs.Backends.{uses}
 use Rattle.sd_flush.specs.Tables.{IsFlusherPost}
 use Rattle.sd_serve.specs.Services.{IsAdminPost, IsIdleDoor}
 use Rattle.sd_serve.specs.declared.objects.ServerObjects.{ServerObjects}

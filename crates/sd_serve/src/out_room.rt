@@ -1,8 +1,8 @@
 ghost use Rattle.std.specs.Prelude.{◌<◌, IfOk, nat_lt};
 ghost use Rattle.sd_serve.specs.OutRoom.{HasOutRooms};
 
-use sd_flush::PerBackend;
 use sd_outlet::{Drain, Feed, Outlet};
+use sd_outside::PerBackend;
 use std::alloc::{AllocError, Global};
 
 /// An outlet with its two ends, in room that is taken before the server's workers start. Nothing was sent.

@@ -1,17 +1,17 @@
 //! The server's workers with outlets between the flusher and the backends.
 ghost use Rattle.std.specs.Prelude.{◌≡◌, ℕ, ◌+◌, ◌<◌, ◌≤◌, All, Bool, Some, length, slice_index_or};
 ghost use Rattle.sd_model_outside.specs.Outside.{Object};
-ghost use Rattle.sd_model_record.specs.Backends.{Backend};
+ghost use Rattle.sd_model_outside.specs.Backend.{Backend};
 ghost use Rattle.sd_model_serve.specs.Rounds.{OutletRoom};
 ghost use Rattle.sd_pool.specs.Pool.{own_at};
 ghost use Rattle.sd_shared_desk.specs.Shared.{part_of};
 ghost use Rattle.sd_outlet.specs.Drain.{IsDrainOf, got};
 ghost use Rattle.sd_outlet.specs.Feed.{IsFeedOf, IsNew, sends_of, sent};
 ghost use Rattle.sd_outlet.specs.Worked.{HasWorked};
-ghost use Rattle.sd_flush.specs.Delivery.{back_of, uses};
+ghost use Rattle.sd_outside.specs.Backends.{back_of, uses};
 ghost use Rattle.sd_flush.specs.Flushing.{Flushes, form_of};
-ghost use Rattle.sd_flush.specs.Leads.{AreReadyLeads, GivesOutlets, StopsLeads};
-ghost use Rattle.sd_flush.specs.PerBackend.{at};
+ghost use Rattle.sd_delivery.specs.Leads.{AreReadyLeads, GivesOutlets, StopsLeads};
+ghost use Rattle.sd_outside.specs.Backends.{at};
 ghost use Rattle.sd_receive.specs.Posts.{HasRun, IsReady};
 ghost use Rattle.sd_serve.specs.OutRoom.{AreOutRooms, HasOutRooms};
 ghost use Rattle.sd_serve.specs.Outlets.{AreLeadsOf, IsNewDrain, WasDrained, offered_of};
@@ -26,9 +26,9 @@ use crate::services::ServicePosts;
 use crate::work::{AdminWork, Draining, Feeding, LineWork};
 use crate::workers::{Ends, NOT_FLUSHED};
 use log::Log;
-use sd_flush::{Lead, Leads, PerBackend};
+use sd_delivery::{Lead, Leads};
 use sd_outlet::{Drain, Feed, Outlet, Worked};
-use sd_outside::{Backend, Backs, DoorEnd};
+use sd_outside::{Backend, Backs, DoorEnd, PerBackend};
 use sd_receive::Post;
 use sd_run::ObjectTypes;
 use sd_shared::Shared;
@@ -69,8 +69,8 @@ fn leads_of<'o, B>(
     ensures { AreLeadsOf (uses backs.now) outlets.entry.now result }
 {
     Leads {
-        graphite: Lead::new(backs.graphite_used, &outlets.graphite, feeds.graphite),
-        console: Lead::new(backs.console_used, &outlets.console, feeds.console),
+        graphite: Lead::new(backs.graphite.is_used, &outlets.graphite, feeds.graphite),
+        console: Lead::new(backs.console.is_used, &outlets.console, feeds.console),
     }
 }
 
@@ -126,21 +126,20 @@ fn run_drained<K: ObjectTypes, R: Threads + Wait + Log + Sync>(
     ensures line_work { HasReadLines K.S.seen (K.T.may_say shared.now.clock.now) shared.now.pool.now shared.now.desk.now shared.now.run_flushes line_work.old line_work.new }
     ensures drains { drains.new.outlets ≡ drains.old.outlets }
     ensures drained { (b : Backend) → WasDrained (at drains.old.outlets.now b) (at drains.new.drains b) (at result b) (back_of K.B.seen backs.old b) (back_of K.B.seen backs.new b) }
-    ensures graphite_flag { backs.new.graphite_used ≡ backs.old.graphite_used }
-    ensures console_flag { backs.new.console_used ≡ backs.old.console_used }
+    ensures same_use { (b : Backend) → uses backs.new b ≡ uses backs.old b }
     ensures len { length posts.new ≡ length posts.old }
     ensures each { (i : ℕ) (d : _) → i < length posts.old → HasRun K.D.seen K.L.seen (K.T.may_say shared.now.clock.now) shared.now.pool.now shared.now.desk.now shared.now.run_flushes (slice_index_or posts.old i d) (slice_index_or posts.new i d) }
 {
     let mut to_graphite = Draining {
         outlet: &drains.outlets.graphite,
         drain: &mut drains.drains.graphite,
-        back: &mut backs.graphite,
+        back: &mut backs.graphite.object,
         worked: NOTHING,
     };
     let mut to_console = Draining {
         outlet: &drains.outlets.console,
         drain: &mut drains.drains.console,
-        back: &mut backs.console,
+        back: &mut backs.console.object,
         worked: NOTHING,
     };
     run_with_pair(
@@ -265,8 +264,8 @@ pub(crate) fn run_through_outlets<K: ObjectTypes, R: Threads + Wait + Log + Sync
     let console_feed = leads.console.into_feed();
     let PerBackend { graphite, console } = drains.drains;
     let rounds = ends.flusher.rounds;
-    let to_graphite = offered(objects.backs.graphite_used, rounds);
-    let to_console = offered(objects.backs.console_used, rounds);
+    let to_graphite = offered(objects.backs.graphite.is_used, rounds);
+    let to_console = offered(objects.backs.console.is_used, rounds);
     let counts = PerBackend {
         graphite: close_outlet(
             rt,
@@ -275,7 +274,7 @@ pub(crate) fn run_through_outlets<K: ObjectTypes, R: Threads + Wait + Log + Sync
             graphite,
             to_graphite,
             worked.graphite,
-            &mut objects.backs.graphite,
+            &mut objects.backs.graphite.object,
         ),
         console: close_outlet(
             rt,
@@ -284,7 +283,7 @@ pub(crate) fn run_through_outlets<K: ObjectTypes, R: Threads + Wait + Log + Sync
             console,
             to_console,
             worked.console,
-            &mut objects.backs.console,
+            &mut objects.backs.console.object,
         ),
     };
     (ends, counts)

@@ -1,6 +1,8 @@
 //! A server from its room to its books.
 ghost use Rattle.std.specs.Prelude.{◌≡◌, ◌*◌, ◌<◌, ◌≤◌, ◌^◌, false, length, max};
 ghost use Rattle.std.specs.Option.{option_map_or};
+ghost use Rattle.sd_model_outside.specs.Backend.{Backend};
+ghost use Rattle.sd_outside.specs.Backends.{uses};
 ghost use Rattle.sd_serve.specs.Room.{IsRoom, sizing_in, start_in};
 ghost use Rattle.sd_serve.specs.Serving.{HasServed, objects_of, run_settings_in};
 ghost use Rattle.sd_serve.specs.Workers.{StayObjects};
@@ -66,8 +68,7 @@ pub fn serve<K: ObjectTypes, R: Threads + Wait + Log + Sync>(
         (objects_of K.D.seen K.L.seen K.P.seen K.B.seen K.E.seen K.S.seen packets.old.items wires.old.items objects.old.beat.now objects.old.backs.now objects.old.door.now objects.old.streams.now)
         (objects_of K.D.seen K.L.seen K.P.seen K.B.seen K.E.seen K.S.seen packets.new.items wires.new.items objects.new.beat.now objects.new.backs.now objects.new.door.now objects.new.streams.now) result }
     ensures objects { StayObjects objects.old objects.new }
-    ensures graphite_flag { objects.new.backs.now.graphite_used ≡ objects.old.backs.now.graphite_used }
-    ensures console_flag { objects.new.backs.now.console_used ≡ objects.old.backs.now.console_used }
+    ensures same_use { (b : Backend) → uses objects.new.backs.now b ≡ uses objects.old.backs.now b }
 {
     let Manned {
         pool,

@@ -1,4 +1,5 @@
 -- The calls of the desk that a line makes.
+use Rattle.sd_model_outside.specs.Backend.{each_of}
 use Rattle.std.proofs.Common.{◌≡◌, ◌∙◌, List, [], ◌∷◌, ◌++◌, sym, ap, append-nil, append_assoc}
 use Rattle.std.specs.Prelude.{Bool, true, false, if◌then◌else◌}
 use Rattle.sd_model_record.specs.Admin.{command}
@@ -26,4 +27,4 @@ line_called e part mid now is first second =
 
 -- what the desk tells where nothing was asked of it
 pub no_facts : Facts
-no_facts = record { start = 0; last = 0; totals = no_tally; up = true; rounds = 0; graphite_faults = 0; console_faults = 0; repeater_faults = 0; admin_faults = 0 }
+no_facts = record { start = 0; last = 0; totals = no_tally; up = true; rounds = 0; faults = each_of (λ b. 0); repeater_faults = 0; admin_faults = 0 }

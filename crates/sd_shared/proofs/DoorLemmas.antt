@@ -4,7 +4,7 @@ use Rattle.std.specs.List.{AllByRecursion}
 use Rattle.sd_model_record.specs.DeskHistory.{DeskCall, AdminFault as FailedSession, Done}
 use Rattle.sd_model_record.specs.Totals.{Among, IsKeeperCall}
 use Rattle.sd_shared_desk.specs.Counts.{HasCalled, IsLook, Part, HasCounted, nothing, of_sessions, plus}
-use Rattle.sd_desk.specs.Sums.{Count, Amounts, TotalPackets, TotalLines, TotalBad, TotalDropped, TakenPackets, TakenLines, TakenBad, TakenDropped, RoundsMade, GraphiteFaults, ConsoleFaults, RepeaterFaults, AdminFaults}
+use Rattle.sd_desk.specs.Sums.{Count, Amounts, TotalPackets, TotalLines, TotalBad, TotalDropped, TakenPackets, TakenLines, TakenBad, TakenDropped, RoundsMade, Faults, RepeaterFaults, AdminFaults}
 
 -- whether it is the count of these faults
 is_of_sessions : (c : Count) → ((n : ℕ) → of_sessions n c ≡ n) ⊎ ((n : ℕ) → of_sessions n c ≡ 0)
@@ -17,8 +17,7 @@ is_of_sessions TakenLines = inr (λ n. refl)
 is_of_sessions TakenBad = inr (λ n. refl)
 is_of_sessions TakenDropped = inr (λ n. refl)
 is_of_sessions RoundsMade = inr (λ n. refl)
-is_of_sessions GraphiteFaults = inr (λ n. refl)
-is_of_sessions ConsoleFaults = inr (λ n. refl)
+is_of_sessions (Faults b) = inr (λ n. refl)
 is_of_sessions RepeaterFaults = inr (λ n. refl)
 is_of_sessions AdminFaults = inl (λ n. refl)
 

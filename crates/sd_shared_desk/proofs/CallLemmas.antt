@@ -1,4 +1,5 @@
 -- What a call of a shared desk comes to.
+use Rattle.sd_model_outside.specs.Backend.{at_backend}
 use Rattle.std.proofs.Common.{◌≡◌, ℕ, ◌+◌, min, Bool, true, false, cond, eqb, eq-eqb, ne_eqb, List, [], ◌∷◌, ◌++◌, map, refl, sym, ap, subst, ◌∙◌, arith}
 use Rattle.std.specs.Prelude.{filter}
 use Rattle.std.specs.List.{AllByRecursion}
@@ -8,7 +9,7 @@ use Rattle.std.proofs.lemmas.List.Sums.{fold_push, sum_by-append, sum_by-cons}
 use Rattle.sd_model_record.specs.Desk.{Desk, Facts, new_desk}
 use Rattle.sd_model_record.specs.DeskHistory.{AnswersFrom, DeskAct, DeskCall, DeskHistory, Look, Reported, calls_by, desk_after, desk_answer, desk_step}
 use Rattle.sd_shared_desk.specs.Counts.{AreSeen, HasCalled, HasCounted, IsLook, of_calls, of_event, of_history}
-use Rattle.sd_model_record.proofs.CountLemmas.{starts_at_none}
+use Rattle.sd_desk.proofs.SumLemmas.{starts_at_none}
 use Rattle.sd_shared_desk.proofs.CountLemmas.{new_in_range}
 use Rattle.sd_shared_desk.proofs.DeskLemmas.{acts_grew}
 use Rattle.sd_turn.specs.Entries.{Begins, GoesOn, entries_by, pick}
@@ -22,7 +23,7 @@ use Rattle.sd_shared_desk.specs.Shared.{Calls, OwnSeat, calls_of, history_of, nu
 use Rattle.sd_shared_desk.proofs.StandsLemmas.{acts-push, step_start}
 use Rattle.sd_model_shard.specs.Shard.{last_number}
 use Rattle.sd_model_record.proofs.Short.{desk_left, IsDeskHistory}
-use Rattle.sd_desk.specs.Sums.{Count, place, number_of, TotalPackets, TotalLines, TotalBad, TotalDropped, RoundsMade, GraphiteFaults, ConsoleFaults, RepeaterFaults, AdminFaults}
+use Rattle.sd_desk.specs.Sums.{Count, number_of, TotalPackets, TotalLines, TotalBad, TotalDropped, RoundsMade, Faults, RepeaterFaults, AdminFaults}
 
 acts-append : (xs ys : List Noted) → acts (xs ++ ys) ≡ acts xs ++ acts ys
 acts-append xs ys = map-append {B = DeskAct} act_in xs ys
@@ -105,7 +106,7 @@ same_facts f g e = cc
 
 -- each number of the desk after a history is the sum of what its calls add
 pub number_after : (start : ℕ) (acts : DeskHistory) → IsDeskHistory start acts → (count : Count) → number_of (desk_after start acts) count ≡ min (of_history acts count) last_number
-number_after start acts legal count = omega (arith, acts_grew (new_desk start) acts (new_in_range start) legal count, starts_at_none start (place count))
+number_after start acts legal count = omega (arith, acts_grew (new_desk start) acts (new_in_range start) legal count, starts_at_none start count)
 
 module _ (shared : SharedDesk) (old new : OwnSeat) (f : Facts) (c : Calls shared old new (record { event = Look; answer = Reported f })) where
   abbrev before : DeskHistory
@@ -134,8 +135,7 @@ module _ (shared : SharedDesk) (old new : OwnSeat) (f : Facts) (c : Calls shared
     bad = ap (λ (g : Facts). g.totals.bad) promised ∙ is_seen TotalBad;
     dropped = ap (λ (g : Facts). g.totals.dropped) promised ∙ is_seen TotalDropped;
     rounds = ap (λ (g : Facts). g.rounds) promised ∙ is_seen RoundsMade;
-    graphite_faults = ap (λ (g : Facts). g.graphite_faults) promised ∙ is_seen GraphiteFaults;
-    console_faults = ap (λ (g : Facts). g.console_faults) promised ∙ is_seen ConsoleFaults;
+    faults = λ b. ap (λ (g : Facts). at_backend g.faults b) promised ∙ is_seen (Faults b);
     repeater_faults = ap (λ (g : Facts). g.repeater_faults) promised ∙ is_seen RepeaterFaults;
     admin_faults = ap (λ (g : Facts). g.admin_faults) promised ∙ is_seen AdminFaults;
   }

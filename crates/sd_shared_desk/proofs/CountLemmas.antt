@@ -1,10 +1,13 @@
 -- What changes of a desk add to its numbers, and what callers add.
+use Rattle.sd_model_outside.specs.Uses.{fault_of}
+use Rattle.sd_model_outside.proofs.BackendLemmas.{at_each}
+use Rattle.sd_model_outside.specs.Backend.{at_backend}
 use Rattle.std.proofs.Common.{◌≡◌, ℕ, Bool, refl, ap, ◌∙◌, arith}
 use Rattle.sd_model_record.specs.Record.{Tally}
 use Rattle.sd_model_record.specs.Desk.{Desk, Marks, add_tally, counted, new_desk, no_tally}
-use Rattle.sd_desk.specs.Sums.{AddsUp, IsTallyInRange, IsInRange, Count, Amounts, place, number_of, TotalPackets, TotalLines, TotalBad, TotalDropped, TakenPackets, TakenLines, TakenBad, TakenDropped, RoundsMade, GraphiteFaults, ConsoleFaults, RepeaterFaults, AdminFaults}
+use Rattle.sd_desk.specs.Sums.{AddsUp, IsTallyInRange, IsInRange, Count, Amounts, number_of, TotalPackets, TotalLines, TotalBad, TotalDropped, TakenPackets, TakenLines, TakenBad, TakenDropped, RoundsMade, Faults, RepeaterFaults, AdminFaults}
 use Rattle.sd_shared_desk.specs.Counts.{GrewBy, KeepsCounts, Part, HasCounted, nothing, plus, of_tally, of_taken, of_marks, of_sends, of_sessions}
-use Rattle.sd_model_record.proofs.CountLemmas.{starts_at_none}
+use Rattle.sd_desk.proofs.SumLemmas.{starts_at_none}
 use Rattle.sd_desk.specs.Steps.{with_tally, taken, marked, with_health, with_admin_fault, with_repeater_faults}
 
 -- a number of a desk in range, to which nothing is added
@@ -21,8 +24,7 @@ grew_tally d t now h TakenLines = stays d h TakenLines
 grew_tally d t now h TakenBad = stays d h TakenBad
 grew_tally d t now h TakenDropped = stays d h TakenDropped
 grew_tally d t now h RoundsMade = stays d h RoundsMade
-grew_tally d t now h GraphiteFaults = stays d h GraphiteFaults
-grew_tally d t now h ConsoleFaults = stays d h ConsoleFaults
+grew_tally d t now h (Faults b) = stays d h (Faults b)
 grew_tally d t now h RepeaterFaults = stays d h RepeaterFaults
 grew_tally d t now h AdminFaults = stays d h AdminFaults
 
@@ -36,8 +38,7 @@ grew_taken d h TakenLines = refl
 grew_taken d h TakenBad = refl
 grew_taken d h TakenDropped = refl
 grew_taken d h RoundsMade = stays d h RoundsMade
-grew_taken d h GraphiteFaults = stays d h GraphiteFaults
-grew_taken d h ConsoleFaults = stays d h ConsoleFaults
+grew_taken d h (Faults b) = stays d h (Faults b)
 grew_taken d h RepeaterFaults = stays d h RepeaterFaults
 grew_taken d h AdminFaults = stays d h AdminFaults
 
@@ -51,8 +52,7 @@ grew_marks d m h TakenLines = stays d h TakenLines
 grew_marks d m h TakenBad = stays d h TakenBad
 grew_marks d m h TakenDropped = stays d h TakenDropped
 grew_marks d m h RoundsMade = refl
-grew_marks d m h GraphiteFaults = refl
-grew_marks d m h ConsoleFaults = refl
+grew_marks d m h (Faults b) = at_each (λ c. counted (at_backend d.facts.faults c) (fault_of (at_backend m c))) b
 grew_marks d m h RepeaterFaults = stays d h RepeaterFaults
 grew_marks d m h AdminFaults = stays d h AdminFaults
 
@@ -66,8 +66,7 @@ grew_health d up h TakenLines = stays d h TakenLines
 grew_health d up h TakenBad = stays d h TakenBad
 grew_health d up h TakenDropped = stays d h TakenDropped
 grew_health d up h RoundsMade = stays d h RoundsMade
-grew_health d up h GraphiteFaults = stays d h GraphiteFaults
-grew_health d up h ConsoleFaults = stays d h ConsoleFaults
+grew_health d up h (Faults b) = stays d h (Faults b)
 grew_health d up h RepeaterFaults = stays d h RepeaterFaults
 grew_health d up h AdminFaults = stays d h AdminFaults
 
@@ -81,8 +80,7 @@ grew_sessions d h TakenLines = stays d h TakenLines
 grew_sessions d h TakenBad = stays d h TakenBad
 grew_sessions d h TakenDropped = stays d h TakenDropped
 grew_sessions d h RoundsMade = stays d h RoundsMade
-grew_sessions d h GraphiteFaults = stays d h GraphiteFaults
-grew_sessions d h ConsoleFaults = stays d h ConsoleFaults
+grew_sessions d h (Faults b) = stays d h (Faults b)
 grew_sessions d h RepeaterFaults = stays d h RepeaterFaults
 grew_sessions d h AdminFaults = refl
 
@@ -96,8 +94,7 @@ grew_sends d n h TakenLines = stays d h TakenLines
 grew_sends d n h TakenBad = stays d h TakenBad
 grew_sends d n h TakenDropped = stays d h TakenDropped
 grew_sends d n h RoundsMade = stays d h RoundsMade
-grew_sends d n h GraphiteFaults = stays d h GraphiteFaults
-grew_sends d n h ConsoleFaults = stays d h ConsoleFaults
+grew_sends d n h (Faults b) = stays d h (Faults b)
 grew_sends d n h RepeaterFaults = refl
 grew_sends d n h AdminFaults = stays d h AdminFaults
 
@@ -107,7 +104,7 @@ none_in_range = record { packets = omega arith; lines = omega arith; bad = omega
 pub new_in_range : (start : ℕ) → IsInRange (new_desk start)
 new_in_range start = record {
   tally = none_in_range;
-  numbers = λ count. omega (arith, starts_at_none start (place count));
+  numbers = λ count. omega (arith, starts_at_none start count);
 }
 
 -- two tallies together are in range
@@ -175,7 +172,6 @@ nothing_counted TakenLines = refl
 nothing_counted TakenBad = refl
 nothing_counted TakenDropped = refl
 nothing_counted RoundsMade = refl
-nothing_counted GraphiteFaults = refl
-nothing_counted ConsoleFaults = refl
+nothing_counted (Faults b) = refl
 nothing_counted RepeaterFaults = refl
 nothing_counted AdminFaults = refl

@@ -1,10 +1,11 @@
 -- What calls add to a desk's numbers, and a caller's part of them.
 use Rattle.std.specs.Prelude.{◌≡◌, ℕ, ◌+◌, ◌<◌, ◌≤◌, min, List, [], ◌++◌, sum_by}
+use Rattle.sd_model_outside.specs.Backend.{Backend, at_backend}
 use Rattle.sd_model_record.specs.Record.{Tally}
 use Rattle.sd_model_outside.specs.Uses.{fault_of}
 use Rattle.sd_model_record.specs.DeskHistory.{DeskAnswer, DeskCall, DeskEvent, DeskHistory, Add, Take, Mark, AdminFault, RepeaterFaults as FailedSends, Look, Took}
 use Rattle.sd_model_record.specs.Desk.{Desk, Facts, Marks, counted}
-use Rattle.sd_desk.specs.Sums.{AddsUp, IsInRange, Count, Amounts, number_of, TotalPackets, TotalLines, TotalBad, TotalDropped, TakenPackets, TakenLines, TakenBad, TakenDropped, RoundsMade, GraphiteFaults, ConsoleFaults, RepeaterFaults, AdminFaults}
+use Rattle.sd_desk.specs.Sums.{AddsUp, IsInRange, Count, Amounts, number_of, TotalPackets, TotalLines, TotalBad, TotalDropped, TakenPackets, TakenLines, TakenBad, TakenDropped, RoundsMade, Faults, RepeaterFaults, AdminFaults}
 use Rattle.sd_model_shard.specs.Shard.{last_number}
 
 -- a change of a desk keeps its sums and its range, and lets no number fall
@@ -40,8 +41,7 @@ of_taken t count = 0
 -- what a round adds with its marks
 abbrev pub of_marks : Marks → Amounts
 of_marks m RoundsMade = 1
-of_marks m GraphiteFaults = fault_of m.graphite
-of_marks m ConsoleFaults = fault_of m.console
+of_marks m (Faults b) = fault_of (at_backend m b)
 of_marks m count = 0
 
 -- so many sends of the repeater that failed
@@ -117,7 +117,6 @@ pub record AreSeen (f : Facts) (seen : Amounts) : Type 0 where
   pub bad : f.totals.bad ≡ seen TotalBad
   pub dropped : f.totals.dropped ≡ seen TotalDropped
   pub rounds : f.rounds ≡ seen RoundsMade
-  pub graphite_faults : f.graphite_faults ≡ seen GraphiteFaults
-  pub console_faults : f.console_faults ≡ seen ConsoleFaults
+  pub faults : (b : Backend) → at_backend f.faults b ≡ seen (Faults b)
   pub repeater_faults : f.repeater_faults ≡ seen RepeaterFaults
   pub admin_faults : f.admin_faults ≡ seen AdminFaults

@@ -1,4 +1,5 @@
 -- What a drill answers, by how its replay ended.
+use Rattle.sd_model_outside.specs.Backend.{Backend, Graphite}
 use Rattle.std.proofs.Common.{◌≡◌, ℕ, ◌≤◌, List, [], ◌∷◌, ◌++◌, Ok, codes, refl, sym, ap, subst, ◌∙◌, inl, inr}
 use Rattle.sd_model_outside.specs.Outside.{Object, Number, HasFailedBehind, given}
 use Rattle.sd_model_outside.proofs.WriteLemmas.{behind-later, behind-longer, given-given}
@@ -40,7 +41,7 @@ not_complete code.WriteFault other totals is = absurd (cc)
 not_complete (code.Worn turns) other totals is = absurd (cc)
 
 module _ (n : ℕ) (few : n ≤ most_packets) (values : file.Settings) (is : values ≡ default_settings) (output : Object) (start end : Seen) (began : start ≡ drill_start n output)
-    (script_faults : end.script.faults ≡ 0) (graphite_faults : end.graphite.faults ≡ 0) (e : End) (replayed : Replayed values e start end) where
+    (script_faults : end.script.faults ≡ 0) (back_faults : (b : Backend) → (end.backs b).faults ≡ 0) (e : End) (replayed : Replayed values e start end) where
   ran : Replayed default_settings e (drill_start n output) end
   ran = subst (λ (from : Seen). Replayed default_settings e from end) began (subst (λ (v : file.Settings). Replayed v e start end) is replayed)
 
@@ -48,7 +49,7 @@ module _ (n : ℕ) (few : n ≤ most_packets) (values : file.Settings) (is : val
   account = record { force = default_settings; trace = ran.trace; start = drill_start n output; end = end }
 
   ended : DrillEnd n e ran.trace output end
-  ended = drill_ends n few output end script_faults graphite_faults ran.trace ran.theorem e ran.ends
+  ended = drill_ends n few output end script_faults back_faults ran.trace ran.theorem e ran.ends
 
   all_drilled : Drilled n account output
   all_drilled =
@@ -88,7 +89,7 @@ module _ (n : ℕ) (few : n ≤ most_packets) (values : file.Settings) (is : val
   ]
 
   -- the totals were written, and then the number of Graphite's bytes was
-  module _ (totals : List Total) (complete : e ≡ Complete totals) (count : ℕ) (counted : end.graphite.content ≡ Number count) where
+  module _ (totals : List Total) (complete : e ≡ Complete totals) (count : ℕ) (counted : (end.backs Graphite).content ≡ Number count) where
     abbrev bytes_line : List ℕ
     bytes_line = total_line (codes "bytes", count)
 

@@ -1,5 +1,5 @@
 -- The proxy: settings that are those of one, and its account.
-use Rattle.std.proofs.Common.{◌≡◌, ℕ, ◌+◌, List, [], ◌∷◌, ◌++◌, map, codes, None, inl, inr, refl, sym, ap, subst, ◌∙◌}
+use Rattle.std.proofs.Common.{◌≡◌, ℕ, List, [], ◌∷◌, ◌++◌, map, codes, None, inl, inr, refl, sym, ap, subst, ◌∙◌}
 use Rattle.sd_model_outside.specs.Outside.{File, Object}
 use Rattle.sd_model_settings.specs.Settings as file
 use Rattle.sd_model_record.specs.Totals.{totals_text}

@@ -10,22 +10,22 @@ use Rattle.sd_model_settings.specs.Settings as file
 use Rattle.sd_model_shard.specs.Shard.{State, Numbers, numbers_of}
 use Rattle.sd_model_shard.proofs.OrderLemmas.{sum_by-map}
 use Rattle.sd_model_shard.specs.History.{state_after}
-use Rattle.sd_model_record.specs.Backends.{Graphite, Console}
+use Rattle.sd_model_outside.specs.Backend.{backend_name, backends, at_backend, each_of}
 use Rattle.sd_model_record.specs.Desk.{Desk}
-use Rattle.sd_model_replay.specs.Replay.{limits_of, policy_of}
+use Rattle.sd_model_replay.specs.Replay.{is_used, limits_of, policy_of}
 use Rattle.sd_model_record.specs.Totals.{Total, totals_of, totals_text}
 use Rattle.sd_model_replay.specs.AccountingTheorem.{summed}
 use Rattle.sd_model_serve.specs.Receiving.{LoopEnd}
 use Rattle.sd_model_run.specs.Run.{ServerTrace, ServerTheorem}
 use Rattle.sd_model_call.specs.Call.{Answer, WritesTotals}
-use Rattle.sd_model_call.specs.Opening.{IsAccepted, World, flags_of, settled}
+use Rattle.sd_model_call.specs.Opening.{IsAccepted, World, settled}
 use Rattle.sd_model_call.specs.Server.{HasServed, ends_answer, reached_limit, objects_in, run_totals, run_settings_of}
 use Rattle.sd_outside.specs.declared.datagrams.Ended.{Ended}
 use Rattle.sd_pool.specs.Books.{IsBookOf, no_book}
 use Rattle.sd_serve.specs.Serving.{HasServed as Ran, end_of}
 use Rattle.sd_serve.specs.Through.{AreCounted, has_counts}
 use Rattle.sd_serve.specs.declared.serving.Served.{Served}
-use Rattle.sd_flush.specs.declared.per_backend.PerBackend.{PerBackend}
+use Rattle.sd_outside.specs.declared.backends.PerBackend.{PerBackend}
 use Rattle.sd_serve.specs.declared.outlets.OutCount.{OutCount}
 use Rattle.sd_shard.specs.Shard.{numbers_in}
 use Rattle.sd_shard.specs.declared.shard.ShardBook.{ShardBook}
@@ -40,7 +40,7 @@ limit_among (e ∷ received) others = ap (λ b. reached_limit (end_of e) || b) (
 
 -- how many texts outlets skipped, where there are outlets
 abbrev skips_where : Bool → ServerTrace → List Total
-skips_where are c = if are then (codes "graphite_skipped", (c.outlet_traces Graphite).skipped) ∷ (codes "console_skipped", (c.outlet_traces Console).skipped) ∷ [] else []
+skips_where are c = if are then map (λ b. (backend_name b ++ codes "_skipped", (c.outlet_traces b).skipped)) backends else []
 
 -- the numbers of books, where each is that of a shard by its number
 numbers_of_books : (states : ℕ → State) (books : List ShardBook) (n : ℕ) → length books ≡ n → ((i : ℕ) → i < n → IsBookOf (get_or books i no_book) (states i))
@@ -56,7 +56,7 @@ numbers_of_books states books n count are =
 skips_are : (s : file.Settings) (c : ServerTrace) (outs : Option (PerBackend OutCount)) → has_counts outs ≡ has_outlets s → AreCounted outs c.outlet_traces → skips_in outs ≡ skips_where (has_outlets s) c
 skips_are s c None has counts = ap (λ (b : Bool). skips_where b c) has
 skips_are s c (Some outs) has counts =
-    (λ i. (codes "graphite_skipped", counts.skips Graphite i) ∷ (codes "console_skipped", counts.skips Console i) ∷ []) ∙ ap (λ (b : Bool). skips_where b c) has
+    (λ i. map (λ b. (backend_name b ++ codes "_skipped", counts.skips b i)) backends) ∙ ap (λ (b : Bool). skips_where b c) has
 
 -- the totals of books and a desk are those of the run that left them
 pub totals_are : (s : file.Settings) (c : ServerTrace) (books : List ShardBook) (desk : Desk) (outs : Option (PerBackend OutCount)) → desk ≡ c.desk → has_counts outs ≡ has_outlets s → AreCounted outs c.outlet_traces → length books ≡ s.sizes.shards
@@ -69,8 +69,7 @@ totals_are s c books desk outs left has counts count are =
     let sums : (number : Numbers → ℕ) → added (map numbers_in books) number ≡ summed s.sizes.shards state number =
     λ number. ap (λ ns. added ns number) numbers ∙ sum_by-map number (λ i. numbers_of (state i)) (range_with_len 0 s.sizes.shards) in
     λ i. totals_of (λ number. sums number i) (record (left i).facts {
-      graphite_faults = (left i).facts.graphite_faults + counts.faults Graphite i;
-      console_faults = (left i).facts.console_faults + counts.faults Console i;
+      faults = each_of (λ b. at_backend (left i).facts.faults b + counts.faults b i);
     })
     ++ skips i
 
@@ -79,9 +78,9 @@ pub has_served : (name : List ℕ) (says : ℕ → Type 0) (answer : Answer) (ol
     → IsAccepted values (File name) old.settings settings → mid ≡ settled values settings old
     → Ran (run_settings_of values) says (objects_in (server_begun values mid)) (objects_in new) served
     → WritesTotals (lines_in served.books.items served.desk served.outs) (ends_of served.received.items served.ends) answer old.seen.output new.seen.output
-    → new.seen.script ≡ old.seen.script → new.probe ≡ old.probe → new.flags ≡ flags_of values → new.settings ≡ settings
+    → new.seen.script ≡ old.seen.script → new.probe ≡ old.probe → new.uses ≡ is_used values → new.settings ≡ settings
     → HasServed name says answer old new
-has_served name says answer old mid new values settings served accepted is ran written script probe flags kept =
+has_served name says answer old mid new values settings served accepted is ran written script probe same_use kept =
     record {
       values = values;
       settings = settings;
@@ -93,6 +92,6 @@ has_served name says answer old mid new values settings served accepted is ran w
           (subst (λ whole. WritesTotals (lines_in served.books.items served.desk served.outs) whole answer old.seen.output new.seen.output) (λ i. ends_answer (ran.received i) (ran.flusher i) (ran.keeper i ∷ ran.line_reader i)) written);
       script = script;
       probe = probe;
-      flags = flags;
+      uses = same_use;
       kept = kept;
     }

@@ -1,7 +1,7 @@
 -- What a server of a settings file is opened for, and what it tells once its run has ended.
 use Rattle.std.specs.Prelude.{ℕ, ◌+◌, List, [], ◌∷◌, ◌++◌, codes, length, map, Option, Some, None, sum_by}
 use Rattle.std.specs.Option.{option_to_list}
-use Rattle.sd_model_record.specs.Backends.{Graphite, Console}
+use Rattle.sd_model_outside.specs.Backend.{backend_name, backends, at_backend, each_of}
 use Rattle.sd_model_record.specs.Desk.{Desk}
 use Rattle.sd_model_settings.specs.Settings as file
 use Rattle.sd_model_replay.specs.Replay.{limits_of, policy_of, targets_of}
@@ -15,7 +15,8 @@ use Rattle.sd_serve.specs.Room.{Sizing}
 use Rattle.sd_serve.specs.Serving.{door_end_of, end_of}
 use Rattle.sd_serve.specs.Through.{faults_at}
 use Rattle.sd_serve.specs.declared.workers.Ends.{Ends}
-use Rattle.sd_flush.specs.declared.per_backend.PerBackend.{PerBackend}
+use Rattle.sd_outside.specs.Backends.{at}
+use Rattle.sd_outside.specs.declared.backends.PerBackend.{PerBackend}
 use Rattle.sd_serve.specs.declared.outlets.OutCount.{OutCount}
 
 -- its sizes
@@ -30,14 +31,13 @@ ends_of received ends = ends_answer (map end_of received) (end_of ends.flusher.e
 abbrev pub totals_in : List ShardBook → Desk → Option (PerBackend OutCount) → List Total
 totals_in books desk outs =
     totals_of (λ number. sum_by number (map numbers_in books)) (record desk.facts {
-      graphite_faults = desk.facts.graphite_faults + faults_at outs Graphite;
-      console_faults = desk.facts.console_faults + faults_at outs Console;
+      faults = each_of (λ b. at_backend desk.facts.faults b + faults_at outs b);
     })
 
 -- how many texts each outlet skipped, if there were any
 abbrev pub skips_in : Option (PerBackend OutCount) → List Total
 skips_in None = []
-skips_in (Some outs) = (codes "graphite_skipped", outs.graphite.skipped) ∷ (codes "console_skipped", outs.console.skipped) ∷ []
+skips_in (Some outs) = map (λ b. (backend_name b ++ codes "_skipped", (at outs b).skipped)) backends
 
 -- what is told of a run that left these
 abbrev pub lines_in : List ShardBook → Desk → Option (PerBackend OutCount) → List ℕ

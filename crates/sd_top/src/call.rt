@@ -1,6 +1,7 @@
 ghost use Rattle.std.specs.Prelude.{◌≡◌, ◌<◌, ◌≤◌, ◌^◌, false, length, map, string_bytes, IfOk, IfErr};
 ghost use Rattle.sd_replay.specs.Replayed.{Replayed};
-ghost use Rattle.sd_model_call.specs.Opening.{flags_of, replay_openings, opened_all};
+ghost use Rattle.sd_model_replay.specs.Replay.{is_used};
+ghost use Rattle.sd_model_call.specs.Opening.{replay_openings, opened_all};
 ghost use Rattle.sd_model_call.specs.Call.{Accounts, StopsAmong, form};
 ghost use Rattle.sd_model_call.specs.Server.{AnswersServer};
 ghost use Rattle.sd_model_call.specs.Proxy.{AnswersProxy};
@@ -16,12 +17,12 @@ use crate::server::serve_files;
 use log::Log;
 use log::sink::Discard;
 use sd_config::Settings;
-use sd_opening::{Form, Status, World, WorldOf, form_of, open_replay, read_settings};
+use sd_opening::{Form, Status, World, WorldOf, form_of, open_replay, read_settings, use_named};
 use sd_outside::{
     Address, Backend, Beat, Clock, Datagrams, Door, Gate, Name, Probe, Sink, Source, Wire,
 };
 use sd_replay::{ReplayEnd, ReplayRoom, replay};
-use sd_run::{ObjectTypes, ObjectTypesOf, names_backend};
+use sd_run::{ObjectTypes, ObjectTypesOf};
 use std::alloc::Global;
 use std::random::RandomSource;
 use std::sync::Wait;
@@ -39,7 +40,7 @@ fn execute<K: ObjectTypes>(
     script: Name,
     world: &mut WorldOf<K>,
 ) -> Result<ReplayEnd, Status>
-    requires flags { (world_of K.R.seen K.O.seen K.B.seen K.D.seen K.L.seen K.E.seen K.P.seen K.Q.seen K.S.seen world.old).flags ≡ flags_of settings.now }
+    requires uses { (world_of K.R.seen K.O.seen K.B.seen K.D.seen K.L.seen K.E.seen K.P.seen K.Q.seen K.S.seen world.old).uses ≡ is_used settings.now }
     requires wires { 256 ≤ length (world.old).wires.items }
     ensures end { IfOk result (λ end. Replayed settings.now (end_of end)
         (opened_all (world_of K.R.seen K.O.seen K.B.seen K.D.seen K.L.seen K.E.seen K.P.seen K.Q.seen K.S.seen world.old) (replay_openings script.items settings.now)).seen
@@ -53,7 +54,7 @@ fn execute<K: ObjectTypes>(
     ensures streams { (world.new).streams ≡ (world.old).streams }
     ensures beat { (world.new).beat ≡ (world.old).beat }
     ensures probe { (world.new).probe ≡ (world.old).probe }
-    ensures flags { (world_of K.R.seen K.O.seen K.B.seen K.D.seen K.L.seen K.E.seen K.P.seen K.Q.seen K.S.seen world.new).flags ≡ (world_of K.R.seen K.O.seen K.B.seen K.D.seen K.L.seen K.E.seen K.P.seen K.Q.seen K.S.seen world.old).flags }
+    ensures same_use { (world_of K.R.seen K.O.seen K.B.seen K.D.seen K.L.seen K.E.seen K.P.seen K.Q.seen K.S.seen world.new).uses ≡ (world_of K.R.seen K.O.seen K.B.seen K.D.seen K.L.seen K.E.seen K.P.seen K.Q.seen K.S.seen world.old).uses }
 {
     let Ok(room) = ReplayRoom::open(alloc, settings) else {
         return Err(Status::OutOfMemory);
@@ -90,8 +91,7 @@ fn replay_files<K: ObjectTypes>(
         Ok(settings) => settings,
         Err(status) => return status,
     };
-    world.backs.graphite_used = names_backend(&settings, b"graphite");
-    world.backs.console_used = names_backend(&settings, b"console");
+    use_named(&mut world.backs, &settings);
     match execute::<K>(alloc, &settings, script, world) {
         Ok(end) => status_of(end),
         Err(status) => status,
@@ -106,7 +106,7 @@ fn replay_files<K: ObjectTypes>(
 /// `replay SETTINGS SCRIPT` reads the settings file and executes the script: each packet is sent on as it came to the targets
 /// of the repeater, where the settings name it, and its samples are filed; each flush gives the backends that they name the
 /// record's text; and the output gets the reply to each admin command. It gets the totals at the script's end. Once the
-/// settings are accepted, the flags of `backs` say which backends they name.
+/// settings are accepted, just those backends are used that they name.
 ///
 /// `serve SETTINGS` reads the settings file, opens what they name, and runs receivers, the flusher, the keepers of the doors and
 /// the workers of outlets side by side until all have ended; then it makes a last round, and the output gets the totals.

@@ -17,12 +17,12 @@ use sd_config::Settings;
 use sd_decimal::Line;
 use sd_opening::{
     Part, Status, WorldOf, check_fit, has_threads, open_proxy, read_settings, reads_streams,
-    tell_end, tell_proxy, tell_unfit, tell_unopened, tell_unread, threads_of_proxy,
+    tell_end, tell_proxy, tell_unfit, tell_unopened, tell_unread, threads_of_proxy, use_named,
 };
 use sd_outside::{Address, Beat, Ended, Failed, Interval, Name, Sink, write_all};
 use sd_proxy::{CheckEnd, Checked};
 use sd_relay::{ProxySums, RelayParts, RelayRoom, Relayed, relay};
-use sd_run::{ObjectTypes, names_backend};
+use sd_run::ObjectTypes;
 use std::alloc::Global;
 use std::sync::Wait;
 use std::thread::Threads;
@@ -167,8 +167,7 @@ pub(crate) fn proxy_files<K: ObjectTypes, X: Threads + Wait + time::Clock + Sync
         tell_unfit(&world.log, alloc, &at, &status);
         return status;
     }
-    world.backs.graphite_used = names_backend(&settings, b"graphite");
-    world.backs.console_used = names_backend(&settings, b"console");
+    use_named(&mut world.backs, &settings);
     if !has_threads(rt, &world.log, threads_of_proxy(&settings)) {
         return Status::OutOfMemory;
     }

@@ -1,7 +1,6 @@
 //! A server, from its settings to its answer.
 ghost use Rattle.std.specs.Prelude.{◌≡◌, ◌<◌, ◌≤◌, ◌^◌, false, length, IfOk, IfErr};
-ghost use Rattle.sd_model_replay.specs.Replay.{limits_of, policy_of, targets_of};
-ghost use Rattle.sd_model_call.specs.Opening.{flags_of};
+ghost use Rattle.sd_model_replay.specs.Replay.{is_used, limits_of, policy_of, targets_of};
 ghost use Rattle.sd_model_call.specs.Server.{ServerAccounts, objects_in, server_openings, run_settings_of, begun_with};
 ghost use Rattle.sd_model_call.specs.Call.{StopsAmong};
 ghost use Rattle.sd_serve.specs.Room.{AreSizes, sizing_of};
@@ -16,11 +15,11 @@ use sd_config::{NamesOf, Settings};
 use sd_flush::RecordForm;
 use sd_opening::{
     Status, WorldOf, has_threads, open_server, read_settings, reads_streams, tell_end, tell_server,
-    tell_unopened, tell_unread, threads_of_server,
+    tell_unopened, tell_unread, threads_of_server, use_named,
 };
 use sd_outside::{Address, Beat, Clock, Interval, Name};
 use sd_plan::Names;
-use sd_run::{ObjectTypes, limits_of, names_backend, policy_of, targets_of};
+use sd_run::{ObjectTypes, limits_of, policy_of, targets_of};
 use sd_serve::{RunSettings, Served, ServerObjects, ServerRoom, Sizes, serve};
 use std::alloc::Global;
 use std::random::RandomSource;
@@ -66,7 +65,7 @@ pub(crate) fn run_server<K: ObjectTypes, X: Threads + Wait + RandomSource + time
     settings: &Settings,
     world: &mut WorldOf<K>,
 ) -> Result<Served, Status>
-    requires flags { (world_of K.R.seen K.O.seen K.B.seen K.D.seen K.L.seen K.E.seen K.P.seen K.Q.seen K.S.seen world.old).flags ≡ flags_of settings.now }
+    requires uses { (world_of K.R.seen K.O.seen K.B.seen K.D.seen K.L.seen K.E.seen K.P.seen K.Q.seen K.S.seen world.old).uses ≡ is_used settings.now }
     requires packets { 16 ≤ length (world.old).packets.items }
     requires wires { 256 ≤ length (world.old).wires.items }
     requires beat { (K.P.seen (world.old).beat).turns < 2 ^ 62 }
@@ -80,7 +79,7 @@ pub(crate) fn run_server<K: ObjectTypes, X: Threads + Wait + RandomSource + time
     ensures script { (world.new).script ≡ (world.old).script }
     ensures output { (world.new).output ≡ (world.old).output }
     ensures probe { (world.new).probe ≡ (world.old).probe }
-    ensures flags { (world_of K.R.seen K.O.seen K.B.seen K.D.seen K.L.seen K.E.seen K.P.seen K.Q.seen K.S.seen world.new).flags ≡ (world_of K.R.seen K.O.seen K.B.seen K.D.seen K.L.seen K.E.seen K.P.seen K.Q.seen K.S.seen world.old).flags }
+    ensures same_use { (world_of K.R.seen K.O.seen K.B.seen K.D.seen K.L.seen K.E.seen K.P.seen K.Q.seen K.S.seen world.new).uses ≡ (world_of K.R.seen K.O.seen K.B.seen K.D.seen K.L.seen K.E.seen K.P.seen K.Q.seen K.S.seen world.old).uses }
     ensures refused { IfErr result (λ status. StopsAmong (server_openings settings.now) (answer_of status)
         (world_of K.R.seen K.O.seen K.B.seen K.D.seen K.L.seen K.E.seen K.P.seen K.Q.seen K.S.seen world.old)
         (world_of K.R.seen K.O.seen K.B.seen K.D.seen K.L.seen K.E.seen K.P.seen K.Q.seen K.S.seen world.new)) }
@@ -147,8 +146,7 @@ pub(crate) fn serve_files<K: ObjectTypes, X: Threads + Wait + RandomSource + tim
             return status;
         }
     };
-    world.backs.graphite_used = names_backend(&settings, b"graphite");
-    world.backs.console_used = names_backend(&settings, b"console");
+    use_named(&mut world.backs, &settings);
     if !has_threads(rt, &world.log, threads_of_server(&settings)) {
         return Status::OutOfMemory;
     }

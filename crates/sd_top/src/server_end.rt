@@ -1,11 +1,12 @@
 //! What a server tells once its run has ended: the totals, and the status.
-ghost use Rattle.std.specs.Prelude.{◌≡◌, ◌≤◌, ◌++◌, ◌∷◌, length, map};
+ghost use Rattle.std.specs.Prelude.{◌≡◌, ◌+◌, ◌≤◌, ◌++◌, ◌∷◌, length, map};
 ghost use Rattle.std.specs.Option.{option_to_list};
 ghost use Rattle.std.specs.List.{list_any};
 ghost use Rattle.sd_model_call.specs.Call.{WritesTotals};
 ghost use Rattle.sd_model_call.specs.Server.{reached_limit};
 ghost use Rattle.sd_model_record.specs.Totals.{totals_text as text_of};
 ghost use Rattle.sd_admin.specs.Totals.{totals_view};
+ghost use Rattle.sd_outside.specs.Backends.{at, kind_of};
 ghost use Rattle.sd_serve.specs.Serving.{door_end_of, end_of};
 ghost use Rattle.sd_opening.specs.Answers.{answer_of};
 ghost use Rattle.sd_top.specs.Serving.{ends_of, lines_in, skips_in, totals_in};
@@ -15,7 +16,7 @@ use sd_admin::{Totals, push_total, totals_text};
 use sd_decimal::Line;
 use sd_desk::Desk;
 use sd_opening::{Part, Status};
-use sd_outside::{DoorEnd, Ended, Failed, Sink, write_all};
+use sd_outside::{BACKENDS, DoorEnd, Ended, Failed, PerBackend, Sink, write_all};
 use sd_serve::{Ends, OutCounts, Served};
 use sd_shard::ShardBook;
 
@@ -30,9 +31,11 @@ fn totals_of(books: &[ShardBook], desk: &Desk, outs: &Option<OutCounts>) -> Tota
         return totals;
     };
     Totals {
-        graphite_faults: u128::from(facts.graphite_faults)
-            + u128::from(outs.graphite.worked.faults),
-        console_faults: u128::from(facts.console_faults) + u128::from(outs.console.worked.faults),
+        faults: PerBackend::from_fn(
+            |kind|
+                ensures { result ≡ at facts.faults (kind_of kind) + (at outs.entry.now (kind_of kind)).worked.faults }
+            { u128::from(*facts.faults.at(kind)) + u128::from(outs.at(kind).worked.faults) },
+        ),
         ..totals
     }
 }
@@ -43,16 +46,10 @@ fn lines_of(totals: &Totals, outs: &Option<OutCounts>) -> Line
 {
     let mut line = totals_text(totals);
     if let Some(outs) = outs {
-        push_total(
-            b"graphite_skipped",
-            u128::from(outs.graphite.skipped),
-            &mut line,
-        );
-        push_total(
-            b"console_skipped",
-            u128::from(outs.console.skipped),
-            &mut line,
-        );
+        for &kind in &BACKENDS {
+            let skipped = u128::from(outs.at(kind).skipped);
+            push_total(kind.skipped_name(), skipped, &mut line);
+        }
     }
     line
 }

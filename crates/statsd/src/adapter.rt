@@ -37,6 +37,11 @@ impl<'a, X, T: Drop> Adapter<'a, X, T> {
         }
     }
 
+    /// Another one beside it, which is opened later.
+    pub(crate) fn another(&self) -> Adapter<'a, X, T> {
+        Adapter::new(self.rt, self.threads, self.shared)
+    }
+
     /// Keeps what was opened at an address, or counts that it wasn't.
     ///
     /// # Errors

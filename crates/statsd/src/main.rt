@@ -23,7 +23,7 @@ use sd_decimal::Line;
 use sd_net::{
     DoorSizes, LongLines, Share, SystemClock, TcpDoor, TcpProbe, TickBeat, UdpReceiver, UdpWire,
 };
-use sd_outside::{Backs, NoGate};
+use sd_outside::{Back, NoGate, PerBackend};
 use sd_top::{Status, World, explain, statsd};
 use shared::{Shared, no_memory};
 use standard_out::StandardOut;
@@ -143,16 +143,15 @@ fn run<'a>(
     let Ok(wires) = wires(rt, threads, shared) else {
         return Status::OutOfMemory;
     };
+    let back = BackendOut::new(rt, threads, shared);
     let mut world = World {
         settings: FileSource::new(rt, threads, shared),
         script: FileSource::new(rt, threads, shared),
         output: StandardOut::new(rt, threads, shared),
-        backs: Backs {
-            graphite: BackendOut::new(rt, threads, shared),
-            console: BackendOut::new(rt, threads, shared),
-            graphite_used: true,
-            console_used: false,
-        },
+        backs: PerBackend::from_fn(|_| Back {
+            object: back.another(),
+            is_used: false,
+        }),
         packets,
         wires,
         door: TcpDoor::new(

@@ -7,14 +7,11 @@ returns-clause-settings c words old new answer asks h = (kept words old new answ
 pub returns-clause-script : goal.returns-clause-script
 returns-clause-script c words old new answer asks h = (kept words old new answer asks h).script
 
-pub returns-clause-graphite : goal.returns-clause-graphite
-returns-clause-graphite c words old new answer asks h = (kept words old new answer asks h).graphite
+pub returns-clause-backs : goal.returns-clause-backs
+returns-clause-backs c words old new answer b asks h = (kept words old new answer asks h).backs b
 
 pub returns-clause-output : goal.returns-clause-output
 returns-clause-output c words old new answer asks h = (kept words old new answer asks h).output
-
-pub returns-clause-console : goal.returns-clause-console
-returns-clause-console c words old new answer asks h = (kept words old new answer asks h).console
 
 pub returns-clause-wires : goal.returns-clause-wires
 returns-clause-wires c words old new answer i asks h = (kept words old new answer asks h).wires i

@@ -1,4 +1,6 @@
-use Rattle.std.proofs.Common.{[], ◌∷◌, codes, sym, ◌∙◌}
+use Rattle.std.proofs.Common.{[], ◌∷◌, ◌++◌, codes, map, sym, ◌∙◌}
+use Rattle.sd_model_outside.specs.Backend.{backends, at_backend}
+use Rattle.sd_model_record.specs.Totals.{faults_name}
 use Rattle.sd_model_replay.specs.Replay.{bounds_of}
 use Rattle.sd_law_shards.specs.Shards.{with_shards}
 use Rattle.sd_law_shards.proofs.BooksLemmas.{books_summed}
@@ -29,9 +31,8 @@ returns c settings n m played some_n some_m none_n none_m =
           ∷ (codes "held", held k)
           ∷ (codes "deleted", deleted k)
           ∷ (codes "rounds", (desk k).facts.rounds)
-          ∷ (codes "graphite_faults", (desk k).facts.graphite_faults)
-          ∷ (codes "console_faults", (desk k).facts.console_faults)
-          ∷ (codes "repeater_faults", (desk k).facts.repeater_faults)
+          ∷ (map (λ b. (faults_name b, at_backend (desk k).facts.faults b)) backends
+          ++ (codes "repeater_faults", (desk k).facts.repeater_faults)
           ∷ (codes "admin_faults", (desk k).facts.admin_faults)
-          ∷ [];
+          ∷ []);
     }

@@ -6,14 +6,15 @@ use Rattle.sd_model_outside.proofs.OutsideLemmas.{Reads-append, Reads-nil}
 use Rattle.sd_model_outside.proofs.WriteLemmas.{given-given}
 use Rattle.std.specs.Prelude.{sum_by, true, false, is_err, Result, Ok, Err, OnOk, OnErr}
 use Rattle.sd_model_shard.specs.Shard.{table_of}
-use Rattle.sd_model_record.specs.Backends.{console_text, graphite_text, Backend, Graphite, Console, text_of, mark_of as mark_at}
+use Rattle.sd_model_outside.specs.Backend.{Backend, at_backend}
+use Rattle.sd_model_record.specs.Backends.{text_of}
 use Rattle.sd_model_record.specs.Desk.{Desk, Marks, new_desk}
 use Rattle.sd_model_record.specs.Admin as admin
 use Rattle.sd_model_settings.specs.Settings.{Plan, plan_of, names_of, Settings}
 use Rattle.sd_model_replay.specs.Replay.{bounds_of, is_used, limits_of, targets_of, replies_to, states_after, Played, moment_of, desk_after_line, first_run, run_of}
 use Rattle.sd_model_record.specs.Record.{Record, record_of}
 use Rattle.sd_model_replay.specs.Script.{Packet, Flush, Admin, IsLegal, end_word, Faulty, Begins, IsUndecided}
-use Rattle.sd_model_replay.specs.AccountingTheorem.{output_in, output_of, Seen, seen_at}
+use Rattle.sd_model_replay.specs.AccountingTheorem.{output_in, output_of, Seen}
 use Rattle.sd_replay.specs.Replayed.{Replayed}
 use Rattle.sd_shards.specs.Shards.{Group, AreAlike, group_bounds, numbers, state_at}
 use Rattle.sd_model_shard.specs.History.{dropped_in}
@@ -27,9 +28,11 @@ use Rattle.sd_script.specs.Reading.{left}
 use Rattle.sd_script.specs.Reads.{ReadsItem}
 use Rattle.sd_replay.specs.Room.{Sizing, HasRoom, HoldsRows, sizing_of}
 use Rattle.sd_replay.specs.RoomInside.{sizing_in}
-use Rattle.sd_run.specs.Seen.{back_of, seen_of}
+use Rattle.sd_run.specs.Seen.{seen_of}
+use Rattle.sd_outside.specs.Backends.{back_of, uses}
 use Rattle.sd_admin.specs.Totals.{totals_view}
-use Rattle.sd_outside.specs.declared.backend.Backs.{Backs}
+use Rattle.sd_outside.specs.declared.backend.Back.{Back}
+use Rattle.sd_outside.specs.declared.backends.PerBackend.{PerBackend}
 use Rattle.sd_script.specs.declared.reader.Item.{Item}
 use Rattle.sd_model_replay.proofs.ReplayLemmas.{run_before, output_of-push}
 use Rattle.sd_shard.specs.Keys.{KeyList}
@@ -42,10 +45,9 @@ use Rattle.sd_model_replay.proofs.Short.{packet_tally}
 use Rattle.sd_desk.specs.Steps.{with_tally, with_repeater_faults}
 
 -- a backend is seen as the one of its name
-back_seen : {R O B L : Type 0} (of_script : R → Object) (of_output : O → Object) (of_back : B → Object) (of_wire : L → Object) (script : R) (output : O) (backs : Backs B) (wires : List L) (back : Backend)
-    → back_of of_back backs back ≡ seen_at back (seen_of of_script of_output of_back of_wire script output backs wires)
-back_seen of_script of_output of_back of_wire script output backs wires Graphite = refl
-back_seen of_script of_output of_back of_wire script output backs wires Console = refl
+back_seen : {R O B L : Type 0} (of_script : R → Object) (of_output : O → Object) (of_back : B → Object) (of_wire : L → Object) (script : R) (output : O) (backs : PerBackend (Back B)) (wires : List L) (back : Backend)
+    → back_of of_back backs back ≡ (seen_of of_script of_output of_back of_wire script output backs wires).backs back
+back_seen of_script of_output of_back of_wire script output backs wires back = refl
 
 -- what was written where a write succeeded, and where it failed
 written_of : {A E P : Type 0} (result : Result A E) → is_err result ≡ false → OnOk result P → P
@@ -55,16 +57,6 @@ written_of (Err fault) fine written = absurd (cc)
 failed_of : {A E P : Type 0} (result : Result A E) → is_err result ≡ true → OnErr result P → P
 failed_of (Ok value) fails failed = absurd (cc)
 failed_of (Err fault) fails failed = failed
-
--- what holds of Graphite and of the console holds of each backend
-both_fit : (s : Settings) (marks : Marks) → FitsUse (is_used s Graphite) marks.graphite → FitsUse (is_used s Console) marks.console → (back : Backend) → FitsUse (is_used s back) (mark_at back marks)
-both_fit s marks graphite console Graphite = graphite
-both_fit s marks graphite console Console = console
-
-both_given : (s : Settings) (marks : Marks) (rec : Record) (old new : Backend → Object) → AfterMark marks.graphite (graphite_text (names_of s) rec) (old Graphite) (new Graphite) → AfterMark marks.console (console_text rec) (old Console) (new Console)
-    → (back : Backend) → AfterMark (mark_at back marks) (text_of (names_of s) back rec) (old back) (new back)
-both_given s marks rec old new graphite console Graphite = graphite
-both_given s marks rec old new graphite console Console = console
 
 -- the script was used since the replay began
 used_since : (first now next : Object) → now.faults ≡ first.faults → now.opened_at ≡ first.opened_at → Used now next → Used first next
@@ -217,8 +209,7 @@ loop-turn-init g c =
         faults = refl;
         place = refl;
       },
-      refl,
-      refl,
+      (λ b. refl),
       refl,
     )
 
@@ -259,7 +250,7 @@ loop-turn-preserved g c =
           (subst (λ ws. AreRepeated (sending ∷ []) (map g.L.Faulty.seen (take n wires) ++ behind) ws) (sym (ap (map g.L.Faulty.seen) after ∙ map-append g.L.Faulty.seen sent_on (drop n wires)))
           (AreRepeated-one datagram failed _ _ behind sends)) in
           let count : length failed ≡ length (targets_of settings) =
-          omega (arith, length-sent datagram failed _ _ sends, length-map (take n wires) g.L.Faulty.seen, length-take n wires, length-map c.targets_of-targets.result.now target_view, ap length c.targets_of-targets.ensures.targets, c.requires.wires, c.loop-turn.invariant.3) in
+          omega (arith, length-sent datagram failed _ _ sends, length-map (take n wires) g.L.Faulty.seen, length-take n wires, length-map c.targets_of-targets.result.now target_view, ap length c.targets_of-targets.ensures.targets, c.requires.wires, c.loop-turn.invariant.2) in
           let alike = subst (AreAlike group) (sym w.shards-is) w.play_packet.ensures.alike in
           let more = packet_more settings stands.some _ _ (left c.next.new.self has) _ _ (back_of g.B.Faulty.seen c.match-item.backs) _ _ (map g.L.Faulty.seen c.match-item.wires) group c.match-item.shards _ begun_desk c.match-item.desk _ c.next.new.self.at _ stands.progress stands.by alike
           who moment datagram failed read.stands.reads (subst (λ k. IsLegal k (Packet who moment datagram)) stands.receivers read.stands.begins.0)
@@ -279,9 +270,8 @@ loop-turn-preserved g c =
               faults = faults;
               place = place;
             },
-            ap (λ (b : Backs _). b.graphite_used) w.backs-is ∙ c.loop-turn.invariant.1,
-            ap (λ (b : Backs _). b.console_used) w.backs-is ∙ c.loop-turn.invariant.2,
-            omega (arith, ap length after, length-append sent_on (drop n wires), length-drop n wires, c.loop-turn.invariant.3),
+            (λ b. ap (λ (bs : PerBackend (Back _)). uses bs b) w.backs-is ∙ c.loop-turn.invariant.1 b),
+            omega (arith, ap length after, length-append sent_on (drop n wires), length-drop n wires, c.loop-turn.invariant.2),
           )
       | in-Flush w ↦
           let read = subst reads w.in-Flush.is c.in-Ok.ensures.item in
@@ -290,18 +280,15 @@ loop-turn-preserved g c =
           let new = w.flush.new.backs in
           let marks = marks_of w.flush.result in
           let rec : Plan → Record = λ plan. record_of plan (map (λ i. table_of (state_at group i)) (numbers group)) begun_desk.tally ts in
-          let graphite = subst (λ names. AfterMark marks.graphite (graphite_text names (rec (plan_of settings))) (g.B.Faulty.seen old.graphite) (g.B.Faulty.seen new.graphite)) c.of-names.ensures
-          (subst (λ plan. AfterMark marks.graphite (graphite_text c.of-names.result (rec plan)) (g.B.Faulty.seen old.graphite) (g.B.Faulty.seen new.graphite)) w.plan.ensures w.flush.ensures.graphite) in
-          let console = subst (λ plan. AfterMark marks.console (console_text (rec plan)) (g.B.Faulty.seen old.console) (g.B.Faulty.seen new.console)) w.plan.ensures w.flush.ensures.console in
-          let uses = both_fit settings marks
-          (subst (λ used. FitsUse used marks.graphite) (c.loop-turn.invariant.1 ∙ c.requires.graphite_used) w.flush.ensures.graphite_used)
-          (subst (λ used. FitsUse used marks.console) (c.loop-turn.invariant.2 ∙ c.requires.console_used) w.flush.ensures.console_used) in
-          let after = both_given settings marks (rec (plan_of settings)) (back_of g.B.Faulty.seen old) (back_of g.B.Faulty.seen new) graphite console in
+          let fit : (back : Backend) → FitsUse (is_used settings back) (at_backend marks back) = λ back. subst (λ used. FitsUse used (at_backend marks back)) (c.loop-turn.invariant.1 back ∙ c.requires.uses back) (w.flush.ensures.gives.used back) in
+          let after : (back : Backend) → AfterMark (at_backend marks back) (text_of (names_of settings) back (rec (plan_of settings))) (back_of g.B.Faulty.seen old back) (back_of g.B.Faulty.seen new back) =
+          λ back. subst (λ names. AfterMark (at_backend marks back) (text_of names back (rec (plan_of settings))) (back_of g.B.Faulty.seen old back) (back_of g.B.Faulty.seen new back)) c.of-names.ensures
+          (subst (λ plan. AfterMark (at_backend marks back) (text_of c.of-names.result back (rec plan)) (back_of g.B.Faulty.seen old back) (back_of g.B.Faulty.seen new back)) w.plan.ensures (w.flush.ensures.gives.delivered back)) in
           let alike = subst (AreAlike group) (sym w.shards-is) w.flush.ensures.alike in
           let more = flush_more settings stands.some _ _ (left c.next.new.self has) _ _ (back_of g.B.Faulty.seen c.match-item.backs) _ _ (map g.L.Faulty.seen c.match-item.wires) group c.match-item.shards _ begun_desk c.match-item.desk _ c.next.new.self.at _ stands.progress stands.by alike
           ts marks read.stands.reads (subst (λ k. IsLegal k (Flush ts)) stands.receivers read.stands.begins.0)
-          (before_record settings played _ c.loop-turn.turn c.in-Ok.item c.loop-turn.desk begun_desk stands.progress.turns (ap start_in w.in-Flush.is) b stands.progress.same_desk) uses
-          (subst (λ (f : Backend → Object). (back : Backend) → AfterMark (mark_at back marks) (text_of (names_of settings) back (rec (plan_of settings))) (back_of g.B.Faulty.seen old back) (f back)) (ap (back_of g.B.Faulty.seen) (sym w.backs-is)) after)
+          (before_record settings played _ c.loop-turn.turn c.in-Ok.item c.loop-turn.desk begun_desk stands.progress.turns (ap start_in w.in-Flush.is) b stands.progress.same_desk) fit
+          (subst (λ (f : Backend → Object). (back : Backend) → AfterMark (at_backend marks back) (text_of (names_of settings) back (rec (plan_of settings))) (back_of g.B.Faulty.seen old back) (f back)) (ap (back_of g.B.Faulty.seen) (sym w.backs-is)) after)
           (λ i below. ap (λ (gr : Group). state_at gr i) w.shards-is ∙ w.flush.ensures.states i below)
           (w.desk-is ∙ w.flush.ensures.desk) read.at (ap (map g.L.Faulty.seen) w.wires-is) in (
             record {
@@ -316,9 +303,8 @@ loop-turn-preserved g c =
               faults = faults;
               place = place;
             },
-            ap (λ (b : Backs _). b.graphite_used) w.backs-is ∙ w.flush.ensures.graphite_flag ∙ c.loop-turn.invariant.1,
-            ap (λ (b : Backs _). b.console_used) w.backs-is ∙ w.flush.ensures.console_flag ∙ c.loop-turn.invariant.2,
-            ap length w.wires-is ∙ c.loop-turn.invariant.3,
+            (λ b. ap (λ (bs : PerBackend (Back _)). uses bs b) w.backs-is ∙ w.flush.ensures.gives.same_use b ∙ c.loop-turn.invariant.1 b),
+            ap length w.wires-is ∙ c.loop-turn.invariant.2,
           )
       | in-Admin+else-is_err w ↦
           let read = subst reads w.in-Admin.is c.in-Ok.ensures.item in
@@ -351,8 +337,7 @@ loop-turn-preserved g c =
               faults = faults;
               place = place;
             },
-            ap (λ (b : Backs _). b.graphite_used) w.backs-is ∙ c.loop-turn.invariant.1,
-            ap (λ (b : Backs _). b.console_used) w.backs-is ∙ c.loop-turn.invariant.2,
-            ap length w.wires-is ∙ c.loop-turn.invariant.3,
+            (λ b. ap (λ (bs : PerBackend (Back _)). uses bs b) w.backs-is ∙ c.loop-turn.invariant.1 b),
+            ap length w.wires-is ∙ c.loop-turn.invariant.2,
           )
     ]

@@ -3,13 +3,13 @@ use Rattle.sd_model_outside.specs.Outside.{Object, given}
 use Rattle.sd_model_settings.specs.Settings as file
 use Rattle.sd_model_record.specs.Desk.{Desk}
 use Rattle.sd_model_replay.specs.Replay.{limits_of}
-use Rattle.sd_model_record.specs.Backends.{Backend}
+use Rattle.sd_model_outside.specs.Backend.{Backend}
 use Rattle.sd_model_replay.specs.AccountingTheorem.{output_of}
 use Rattle.sd_shards.specs.Shards.{Group, state_at}
 use Rattle.sd_script.specs.Reading.{Reading, left}
 use Rattle.sd_record.specs.Rows.{Room}
 use Rattle.sd_replay.specs.Room.{HasRoom, HoldsRows}
-use Rattle.sd_run.specs.Seen.{back_of}
+use Rattle.sd_outside.specs.Backends.{back_of, uses}
 use Rattle.sd_replay.proofs.PlayLemmas.{Progress, GoBy}
 use Rattle.sd_replay.proofs.run.replay.Given as goal
 
@@ -30,6 +30,5 @@ abbrev pub invariant-loop-turn : goal.invariant-loop-turn
 invariant-loop-turn g l =
     Stands l.fn.settings (g.R.Faulty.seen l.fn.script) (g.R.Faulty.seen l.script) (back_of g.B.Faulty.seen l.fn.backs) (back_of g.B.Faulty.seen l.backs)
     (map g.L.Faulty.seen l.fn.wires) (map g.L.Faulty.seen l.wires) (g.O.Faulty.seen l.fn.output) (g.O.Faulty.seen l.output) l.shards l.desk l.scratch.room l.keys.room l.dump.room l.reader l.turn
-    × (l.backs.graphite_used ≡ l.fn.backs.graphite_used)
-    × (l.backs.console_used ≡ l.fn.backs.console_used)
+    × ((b : Backend) → uses l.backs b ≡ uses l.fn.backs b)
     × (length l.wires ≡ length l.fn.wires)

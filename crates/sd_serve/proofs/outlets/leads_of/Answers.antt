@@ -1,11 +1,11 @@
 use Rattle.std.proofs.Common.{◌≡◌, []}
-use Rattle.sd_model_record.specs.Backends.{Graphite, Console}
+use Rattle.sd_model_outside.specs.Backend.{Graphite, Console}
 use Rattle.sd_outlet.specs.Feed.{sent}
-use Rattle.sd_flush.specs.Delivery.{uses}
-use Rattle.sd_flush.specs.Leads.{IsLeadReady, feed_in, is_used, lead_at, outlet_in}
-use Rattle.sd_flush.specs.PerBackend.{at}
-use Rattle.sd_flush.specs.declared.outlets.Leads.{Leads}
-use Rattle.sd_flush.proofs.RoundLemmas.{at_both}
+use Rattle.sd_outside.specs.Backends.{uses}
+use Rattle.sd_delivery.specs.Leads.{IsLeadReady, feed_in, is_used, lead_at, outlet_in}
+use Rattle.sd_outside.specs.Backends.{at}
+use Rattle.sd_delivery.specs.declared.outlets.Leads.{Leads}
+use Rattle.sd_outside.proofs.BackendLemmas.{at_both}
 use Rattle.sd_serve.proofs.outlets.leads_of.Goals as goal
 
 pub new-requires : goal.new-requires

@@ -1,15 +1,16 @@
 use Rattle.std.proofs.Common.{◌≡◌, ◌+◌, Bool, length, refl, sym, ap, subst, ◌∙◌, arith}
-use Rattle.sd_model_record.specs.Backends.{Backend, Graphite, Console}
+use Rattle.sd_model_outside.specs.Backend.{Backend, Graphite, Console}
 use Rattle.sd_outlet.specs.declared.drain.Drain.{Drain}
 use Rattle.sd_outlet.specs.declared.feed.Feed.{Feed}
 use Rattle.sd_outlet.specs.declared.outlet.Outlet.{Outlet}
 use Rattle.sd_outlet.specs.Feed.{IsFeedOf, IsNew, sends_of, sent}
 use Rattle.sd_outlet.specs.Worked.{HasWorked}
-use Rattle.sd_flush.specs.Delivery.{back_of, uses}
-use Rattle.sd_flush.specs.Leads.{feed_in, lead_at}
-use Rattle.sd_flush.specs.PerBackend.{at}
-use Rattle.sd_flush.specs.declared.per_backend.PerBackend.{PerBackend}
-use Rattle.sd_flush.proofs.RoundLemmas.{at_both}
+use Rattle.sd_outside.specs.Backends.{back_of, uses}
+use Rattle.sd_delivery.specs.Leads.{feed_in, lead_at}
+use Rattle.sd_outside.specs.Backends.{at}
+use Rattle.sd_outside.specs.declared.backend.Back.{Back}
+use Rattle.sd_outside.specs.declared.backends.PerBackend.{PerBackend}
+use Rattle.sd_outside.proofs.BackendLemmas.{at_both}
 use Rattle.sd_serve.specs.OutRoom.{outlet_in}
 use Rattle.sd_serve.specs.Outlets.{IsNewDrain, offered_of}
 use Rattle.sd_serve.specs.declared.outlets.OutCount.{OutCount}
@@ -65,6 +66,8 @@ close_outlet-requires-2-clause-few g c =
 pub returns-clause-ran : goal.returns-clause-ran
 returns-clause-ran g c =
     let ran = c.run_with_outlets.ensures.ran in
+    let mid = c.run_with_outlets.new.objects.backs.now in
+    let backs : PerBackend (Back _) = record { graphite = record mid.graphite { object = c.close_outlet.new.back }; console = record mid.console { object = c.close_outlet-2.new.back } } in
     record {
       flusher = ran.flusher;
       number = ran.number;
@@ -74,7 +77,7 @@ returns-clause-ran g c =
       keeper = ran.keeper;
       lines = ran.lines;
       objects = record { beat = ran.objects.beat; backs = ran.objects.backs; door = ran.objects.door; streams = ran.objects.streams };
-      same_use = ran.same_use;
+      same_use = at_both (λ b. uses backs b ≡ uses c.args.objects.now.backs.now b) (ran.same_use Graphite) (ran.same_use Console);
       len = ran.len;
       each = ran.each;
     }
@@ -86,7 +89,8 @@ returns-clause-flushes g c =
     let leads = ran.new.leads in
     let rounds = ran.result.0.flusher.rounds in
     let back = back_of g.K.B.Faulty.seen c.args.objects.now.backs.now in
-    let backs = record ran.new.objects.backs.now { graphite = c.close_outlet.new.back; console = c.close_outlet-2.new.back } in
+    let old = ran.new.objects.backs.now in
+    let backs : PerBackend (Back _) = record { graphite = record old.graphite { object = c.close_outlet.new.back }; console = record old.console { object = c.close_outlet-2.new.back } } in
     let counts : PerBackend OutCount = record { graphite = c.close_outlet.result; console = c.close_outlet-2.result } in
     let was : (b : Backend) → WasClosed (used b) (sent (feed_in (lead_at leads b))) rounds (at counts b) (back b) (back_of g.K.B.Faulty.seen backs b) =
     at_both (λ b. WasClosed (used b) (sent (feed_in (lead_at leads b))) rounds (at counts b) (back b) (back_of g.K.B.Faulty.seen backs b))

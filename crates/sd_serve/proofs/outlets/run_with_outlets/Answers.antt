@@ -1,5 +1,4 @@
 use Rattle.std.proofs.Common.{rules, refl}
-use Rattle.sd_flush.proofs.DeliveryLemmas.{same_flags}
 use Rattle.sd_serve.proofs.outlets.run_with_outlets.Goals as goal
 
 pub returns-clause-ran : goal.returns-clause-ran
@@ -14,7 +13,7 @@ returns-clause-ran g c =
       keeper = ran.admin_work.ends;
       lines = ran.line_work.lines_read;
       objects = record { beat = refl; backs = refl; door = refl; streams = refl };
-      same_use = same_flags c.args.objects.now.backs.now c.run_drained-worked.new.backs ran.graphite_flag ran.console_flag;
+      same_use = ran.same_use;
       len = ran.len;
       each = ran.each;
     }

@@ -3,7 +3,6 @@ use Rattle.std.specs.List.{AllByRecursion}
 use Rattle.std.proofs.lemmas.List.{with_items_is, length-map}
 use Rattle.std.proofs.lemmas.List.Elements.{All-from_recursion}
 use Rattle.sd_desk.specs.Marks.{marks_of}
-use Rattle.sd_model_record.specs.Backends.{Graphite, Console}
 use Rattle.sd_flush.specs.Tables.{waiting_in}
 use Rattle.sd_receive.specs.Posts.{IsReady, WasRun, ended_in}
 use Rattle.sd_serve.specs.Closing.{IsClosed}
@@ -124,8 +123,5 @@ returns-clause-served g c =
     served (sights g.K.D.Faulty.seen g.K.L.Faulty.seen g.K.P.Faulty.seen g.K.B.Faulty.seen g.K.E.Faulty.seen g.K.S.Faulty.seen) _ says c.args.run_settings.now.form.plan.now c.args.run_settings.now.form.names.now c.args.run_settings.now.settings.now (sizing_in c.args.room) reports manned.pool
     (ap (map end_of) (c.ends_in-received.ensures ∙ ap (map ended_in) (c.deref.ensures.value ∙ same)))
 
-pub returns-clause-graphite_flag : goal.returns-clause-graphite_flag
-returns-clause-graphite_flag g c = c.round.ensures.round.made.given.same_use Graphite ∙ c.run_all-counts.ensures.ran.same_use Graphite
-
-pub returns-clause-console_flag : goal.returns-clause-console_flag
-returns-clause-console_flag g c = c.round.ensures.round.made.given.same_use Console ∙ c.run_all-counts.ensures.ran.same_use Console
+pub returns-clause-same_use : goal.returns-clause-same_use
+returns-clause-same_use g c b = c.round.ensures.round.made.given.same_use b ∙ c.run_all-counts.ensures.ran.same_use b

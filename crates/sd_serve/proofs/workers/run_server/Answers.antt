@@ -1,5 +1,5 @@
 use Rattle.std.proofs.Common.{refl, ap, ◌∙◌}
-use Rattle.sd_flush.specs.Delivery.{uses}
+use Rattle.sd_outside.specs.Backends.{uses}
 use Rattle.sd_flush.proofs.DeliveryLemmas.{same_use}
 use Rattle.sd_serve.proofs.workers.run_server.Goals as goal
 

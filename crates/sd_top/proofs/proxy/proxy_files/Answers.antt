@@ -1,5 +1,7 @@
+use Rattle.std.proofs.Math.Path.{fun_ext}
 use Rattle.std.proofs.Common.{◌≡◌, None, [], inl, refl, ap, subst, rules}
-use Rattle.sd_model_call.specs.Opening.{World, flags_of, settled}
+use Rattle.sd_outside.specs.Backends.{back_of, uses}
+use Rattle.sd_model_call.specs.Opening.{World, settled}
 use Rattle.sd_model_call.specs.Proxy.{proxy_flaw, proxy_openings}
 use Rattle.sd_model_call.specs.Call.{NoMemory, StopsAmong, WritesTotals}
 use Rattle.sd_opening.specs.Answers.{answer_of}
@@ -17,9 +19,9 @@ returns-then-not-has_threads g c =
     let fit : proxy_flaw values ≡ None = search rules in
     let old = world_of g.K.R.Faulty.seen g.K.O.Faulty.seen g.K.B.Faulty.seen g.K.D.Faulty.seen g.K.L.Faulty.seen g.K.E.Faulty.seen g.K.P.Faulty.seen g.K.Q.Faulty.seen g.K.S.Faulty.seen c.args.world.now in
     let settings = g.K.R.Faulty.seen c.read_settings.new.source in
-    let begun : World = record old { settings = settings; flags = record { graphite = c.names_backend-world.result; console = c.names_backend-world-2.result } } in
-    let flags : begun.flags ≡ flags_of values = λ i. record { graphite = c.names_backend-world.ensures i; console = c.names_backend-world-2.ensures i } in
-    let is : begun ≡ settled values settings old = λ i. record old { settings = settings; flags = flags i } in
+    let begun : World = record old { settings = settings; seen = record old.seen { backs = back_of g.K.B.Faulty.seen c.use_named.new.backs }; uses = uses c.use_named.new.backs } in
+    let objects : back_of g.K.B.Faulty.seen c.use_named.new.backs ≡ old.seen.backs = fun_ext (λ b. ap g.K.B.Faulty.seen (c.use_named.ensures.objects b)) in
+    let is : begun ≡ settled values settings old = λ i. record old { settings = settings; seen = record old.seen { backs = objects i }; uses = c.use_named.ensures.uses i } in
     proxy_stopped c.args.settings.items values settings old begun c.in-Ok.ensures.accepted fit NoMemory
     (subst (λ (w : World). StopsAmong (proxy_openings values) NoMemory w begun) is (inl (refl, record { before = []; behind = proxy_openings values; order = refl; opened = refl })))
 
@@ -29,9 +31,9 @@ returns-in-Ok-run_proxy g c =
     let fit : proxy_flaw values ≡ None = search rules in
     let old = world_of g.K.R.Faulty.seen g.K.O.Faulty.seen g.K.B.Faulty.seen g.K.D.Faulty.seen g.K.L.Faulty.seen g.K.E.Faulty.seen g.K.P.Faulty.seen g.K.Q.Faulty.seen g.K.S.Faulty.seen c.args.world.now in
     let settings = g.K.R.Faulty.seen c.read_settings.new.source in
-    let begun : World = record old { settings = settings; flags = record { graphite = c.names_backend-world.result; console = c.names_backend-world-2.result } } in
-    let flags : begun.flags ≡ flags_of values = λ i. record { graphite = c.names_backend-world.ensures i; console = c.names_backend-world-2.ensures i } in
-    let is : begun ≡ settled values settings old = λ i. record old { settings = settings; flags = flags i } in
+    let begun : World = record old { settings = settings; seen = record old.seen { backs = back_of g.K.B.Faulty.seen c.use_named.new.backs }; uses = uses c.use_named.new.backs } in
+    let objects : back_of g.K.B.Faulty.seen c.use_named.new.backs ≡ old.seen.backs = fun_ext (λ b. ap g.K.B.Faulty.seen (c.use_named.ensures.objects b)) in
+    let is : begun ≡ settled values settings old = λ i. record old { settings = settings; seen = record old.seen { backs = objects i }; uses = c.use_named.ensures.uses i } in
     let mid = world_of g.K.R.Faulty.seen g.K.O.Faulty.seen g.K.B.Faulty.seen g.K.D.Faulty.seen g.K.L.Faulty.seen g.K.E.Faulty.seen g.K.P.Faulty.seen g.K.Q.Faulty.seen g.K.S.Faulty.seen c.run_proxy.new.world in
     let r = c.in-Ok-run_proxy.relayed in
     let relayed = c.in-Ok-run_proxy.ensures.relayed in
@@ -46,9 +48,9 @@ returns-in-Err-run_proxy g c =
     let fit : proxy_flaw values ≡ None = search rules in
     let old = world_of g.K.R.Faulty.seen g.K.O.Faulty.seen g.K.B.Faulty.seen g.K.D.Faulty.seen g.K.L.Faulty.seen g.K.E.Faulty.seen g.K.P.Faulty.seen g.K.Q.Faulty.seen g.K.S.Faulty.seen c.args.world.now in
     let settings = g.K.R.Faulty.seen c.read_settings.new.source in
-    let begun : World = record old { settings = settings; flags = record { graphite = c.names_backend-world.result; console = c.names_backend-world-2.result } } in
-    let flags : begun.flags ≡ flags_of values = λ i. record { graphite = c.names_backend-world.ensures i; console = c.names_backend-world-2.ensures i } in
-    let is : begun ≡ settled values settings old = λ i. record old { settings = settings; flags = flags i } in
+    let begun : World = record old { settings = settings; seen = record old.seen { backs = back_of g.K.B.Faulty.seen c.use_named.new.backs }; uses = uses c.use_named.new.backs } in
+    let objects : back_of g.K.B.Faulty.seen c.use_named.new.backs ≡ old.seen.backs = fun_ext (λ b. ap g.K.B.Faulty.seen (c.use_named.ensures.objects b)) in
+    let is : begun ≡ settled values settings old = λ i. record old { settings = settings; seen = record old.seen { backs = objects i }; uses = c.use_named.ensures.uses i } in
     let new = world_of g.K.R.Faulty.seen g.K.O.Faulty.seen g.K.B.Faulty.seen g.K.D.Faulty.seen g.K.L.Faulty.seen g.K.E.Faulty.seen g.K.P.Faulty.seen g.K.Q.Faulty.seen g.K.S.Faulty.seen c.run_proxy.new.world in
     proxy_stopped c.args.settings.items values settings old new c.in-Ok.ensures.accepted fit (answer_of c.in-Err-run_proxy.status)
     (subst (λ (w : World). StopsAmong (proxy_openings values) (answer_of c.in-Err-run_proxy.status) w new) is c.in-Err-run_proxy.ensures.refused)

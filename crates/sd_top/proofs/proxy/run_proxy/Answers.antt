@@ -1,4 +1,5 @@
 use Rattle.std.proofs.Common.{◌≡◌, ◌+◌, ◌*◌, false, [], arith, length, map, inl, refl, sym, ap, subst, ◌∙◌, rules}
+use Rattle.sd_outside.specs.Backends.{back_of, uses}
 use Rattle.std.specs.Prelude.{if◌then◌else◌}
 use Rattle.std.proofs.lemmas.List.{length-map}
 use Rattle.sd_model_outside.specs.Outside.{Host}
@@ -83,13 +84,12 @@ returns-clause-relayed g c =
         seen = record {
           script = g.K.R.Faulty.seen (e.rest.script i);
           output = g.K.O.Faulty.seen (e.rest.output i);
-          graphite = g.K.B.Faulty.seen (e.backs i).graphite;
-          console = g.K.B.Faulty.seen (e.backs i).console;
+          backs = back_of g.K.B.Faulty.seen (e.backs i);
           wires = map g.K.L.Faulty.seen parts.wires.now.items;
         };
         served = record { sources = map g.K.D.Faulty.seen parts.packets.now.items; beat = g.K.P.Faulty.seen parts.beat.now; door = g.K.E.Faulty.seen parts.door.now; streams = g.K.S.Faulty.seen parts.lines.now };
         probe = g.K.Q.Faulty.seen parts.probe.now;
-        flags = record { graphite = (e.backs i).graphite_used; console = (e.backs i).console_used };
+        uses = uses (e.backs i);
       });
     }
 

@@ -1,13 +1,10 @@
+use Rattle.std.proofs.Math.Path.{fun_ext}
 use Rattle.std.proofs.Common.{◌≡◌, [], length, map, refl, sym, ap, subst, ◌∙◌, arith, inl}
 use Rattle.std.proofs.lemmas.List.{length-map}
 use Rattle.sd_model_outside.specs.Outside.{Host, Object}
-use Rattle.sd_model_replay.specs.Replay.{is_used}
-use Rattle.sd_model_record.specs.Backends.{Backend, Graphite, Console}
 use Rattle.sd_model_run.specs.Run.{RunSettings, Objects}
-use Rattle.sd_model_call.specs.Opening.{Flags, World}
-use Rattle.sd_model_call.specs.Server.{back_in, has_streams, objects_in, server_openings, run_settings_of}
-use Rattle.sd_flush.specs.Delivery.{back_of, uses}
-use Rattle.sd_outside.specs.declared.backend.Backs.{Backs}
+use Rattle.sd_model_call.specs.Server.{has_streams, objects_in, server_openings, run_settings_of}
+use Rattle.sd_outside.specs.Backends.{back_of}
 use Rattle.sd_serve.specs.Room.{outlets_of, sizing_in, start_in}
 use Rattle.sd_serve.specs.Serving.{HasServed, end_of, objects_of, run_settings_in}
 use Rattle.sd_opening.specs.World.{world_of}
@@ -41,16 +38,6 @@ serve-requires-clause-door g c κs within =
     let opened_there = c.in_ok-open_server.ensures.door in
     (ap (λ (o : Object). o.is_out) opened_there ∙ c.requires.door.0, let turns = ap (λ (o : Object). o.turns) opened_there in let few = c.requires.door.1 in omega (arith, turns, few))
 
--- the backends that the flags say are used are those that the settings name
-used_as : {B : Type 0} (s : _) (backs : Backs B) → backs.graphite_used ≡ (is_used s Graphite) → backs.console_used ≡ (is_used s Console) → (b : Backend) → uses backs b ≡ is_used s b
-used_as s backs g c Graphite = g
-used_as s backs g c Console = c
-
--- what is seen of a backend
-seen_as : {B : Type 0} (see : B → Object) (backs : Backs B) (w : World) → w.seen.graphite ≡ see backs.graphite → w.seen.console ≡ see backs.console → (b : Backend) → back_of see backs b ≡ back_in w b
-seen_as see backs w g c Graphite = sym g
-seen_as see backs w g c Console = sym c
-
 pub returns-clause-few : goal.returns-clause-few
 returns-clause-few g c =
     let h = c.serve.ensures.served in
@@ -69,14 +56,13 @@ returns-clause-served g c =
     let seen_mid = world_of g.K.R.Faulty.seen g.K.O.Faulty.seen g.K.B.Faulty.seen g.K.D.Faulty.seen g.K.L.Faulty.seen g.K.E.Faulty.seen g.K.P.Faulty.seen g.K.Q.Faulty.seen g.K.S.Faulty.seen mid in
     let opened = c.in_ok-open_server.ensures.opened in
     let sizes = c.in-Ok.ensures.sizes ∙ c.sizes_of.ensures.sizes in
-    let flags = c.in_ok-open_server.ensures.flags ∙ c.requires.flags in
-    let used = used_as s mid.backs (ap (λ (f : Flags). f.graphite) flags) (ap (λ (f : Flags). f.console) flags) in
+    let used = c.in_ok-open_server.ensures.same_use ∙ c.requires.uses in
     let flushes = c.from.ensures ∙ c.run_flushes.ensures.value in
     let run_settings : run_settings_in (sizing_in c.in-Ok.room) c.plan.result.now c.of-names.result s mid.backs c.from.result ≡ run_settings_of s = (λ i. record {
       limits = (sizes i).limits;
       policy = (sizes i).policy;
       form = record { shards = (sizes i).shards; plan = c.plan.ensures i; names = c.of-names.ensures i };
-      uses = λ b. used b i;
+      uses = used i;
       outlets = outlets_of (sizes i);
       settings = s;
       receivers = (sizes i).receivers;
@@ -93,7 +79,7 @@ returns-clause-served g c =
       sources = map g.K.D.Faulty.seen mid.packets.items;
       wires = map g.K.L.Faulty.seen mid.wires.items;
       beat = beat i;
-      backs = λ b. seen_as g.K.B.Faulty.seen mid.backs seen_mid refl refl b i;
+      backs = back_of g.K.B.Faulty.seen mid.backs;
       door = g.K.E.Faulty.seen mid.door;
       streams = g.K.S.Faulty.seen mid.streams;
     }) in
@@ -103,7 +89,7 @@ returns-clause-served g c =
       sources = map g.K.D.Faulty.seen c.serve.new.packets.items;
       wires = map g.K.L.Faulty.seen c.serve.new.wires.items;
       beat = g.K.P.Faulty.seen c.serve.new.objects.beat.now;
-      backs = λ b. seen_as g.K.B.Faulty.seen c.serve.new.objects.backs.now new refl refl b i;
+      backs = back_of g.K.B.Faulty.seen c.serve.new.objects.backs.now;
       door = g.K.E.Faulty.seen c.serve.new.objects.door.now;
       streams = g.K.S.Faulty.seen c.serve.new.objects.streams.now;
     }) in
@@ -112,3 +98,6 @@ returns-clause-served g c =
     (subst (λ (o : Objects). HasServed (run_settings_in (sizing_in c.in-Ok.room) c.plan.result.now c.of-names.result s mid.backs c.from.result) (g.K.T.Clock.may_say mid.clock) o (objects_in new) c.serve.result) (before ∙ ap objects_in begun_is)
     (subst (λ (o : Objects). HasServed (run_settings_in (sizing_in c.in-Ok.room) c.plan.result.now c.of-names.result s mid.backs c.from.result) (g.K.T.Clock.may_say mid.clock) (objects_of g.K.D.Faulty.seen g.K.L.Faulty.seen g.K.P.Faulty.seen g.K.B.Faulty.seen g.K.E.Faulty.seen g.K.S.Faulty.seen mid.packets.items mid.wires.items c.start.new.self mid.backs mid.door mid.streams) o c.serve.result) after
     c.serve.ensures.served)))
+
+pub returns-clause-same_use : goal.returns-clause-same_use
+returns-clause-same_use g c = fun_ext c.serve.ensures.same_use ∙ c.open_server.ensures.same_use

@@ -1,5 +1,7 @@
-use Rattle.std.proofs.Common.{◌≤◌, subst}
-use Rattle.sd_desk.specs.Sums.{IsInRange, Count, number_of, TotalPackets, TotalLines, TotalBad, TotalDropped, TakenPackets, TakenLines, TakenBad, TakenDropped, RoundsMade, GraphiteFaults, ConsoleFaults, RepeaterFaults, AdminFaults}
+use Rattle.sd_outside.specs.Backends.{at}
+use Rattle.sd_model_outside.proofs.BackendLemmas.{at_each}
+use Rattle.std.proofs.Common.{◌≤◌, subst, sym}
+use Rattle.sd_desk.specs.Sums.{IsInRange, Count, number_of, TotalPackets, TotalLines, TotalBad, TotalDropped, TakenPackets, TakenLines, TakenBad, TakenDropped, RoundsMade, Faults, RepeaterFaults, AdminFaults}
 use Rattle.sd_desk.specs.Desk.{IsDesk, desk_of}
 use Rattle.sd_desk.specs.declared.desk.Desk.TheInside.{Inside}
 use Rattle.sd_desk.proofs.desk.Desk.facts.Goals as goal
@@ -15,8 +17,7 @@ numbers d h TakenLines = d.taken_so_far.few_lines
 numbers d h TakenBad = d.taken_so_far.few_bad
 numbers d h TakenDropped = d.taken_so_far.few_dropped
 numbers d h RoundsMade = h.rounds
-numbers d h GraphiteFaults = h.graphite_faults
-numbers d h ConsoleFaults = h.console_faults
+numbers d h (Faults b) = subst (λ n. n ≤ last_number) (sym (at_each (at d.faults) b)) (h.faults b)
 numbers d h RepeaterFaults = h.repeater_faults
 numbers d h AdminFaults = h.admin_faults
 
