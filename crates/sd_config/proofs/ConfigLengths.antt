@@ -1,11 +1,13 @@
 -- How long the values of the reply to `config` are.
-use Rattle.std.proofs.Common.{◌≡◌, ℕ, zero, suc, ◌+◌, ◌*◌, ◌≤◌, true, false, ℤ, pos, negsuc, List, [], ◌∷◌, length, map, All, codes, refl, ap, inl, inr, ◌||◌, arith, length-append}
+use Rattle.std.proofs.Common.{◌≡◌, ℕ, zero, suc, ◌+◌, ◌*◌, ◌≤◌, true, false, ℤ, pos, negsuc, List, [], ◌∷◌, length, map, All, ◌++◌, codes, refl, ap, inl, inr, arith, length-append}
 use Rattle.std.specs.Str.{bytes_eq}
 use Rattle.std.proofs.lemmas.Bool.{and_parts, or_cases, false≢true}
-use Rattle.std.specs.List.{AllPass}
+use Rattle.std.specs.Prelude.{nat_le}
+use Rattle.std.specs.List.{AllPass, list_all, list_any}
 use Rattle.std.proofs.lemmas.Bool.Decides.{nat_tests}
 use Rattle.sd_model_text.specs.Numbers.{number_text, Limit, Below, Infinite}
 use Rattle.sd_decimal.proofs.NumberTexts.{length-number_text}
+use Rattle.sd_model_outside.specs.Backend.{backends, backend_name}
 use Rattle.sd_model_settings.specs.Entries.{is_limit, is_backend, is_class_name}
 use Rattle.sd_law_settings.specs.Ranges.{IsThreshold, AreThresholds, AreBackends, AreClassNames, AreLimits}
 use Rattle.sd_law_settings.proofs.EntriesInRange.{length-class_name}
@@ -47,17 +49,17 @@ length-bytes_eq [] (y ∷ ys) e = absurd (false≢true e)
 length-bytes_eq (x ∷ xs) [] e = absurd (false≢true e)
 length-bytes_eq (x ∷ xs) (y ∷ ys) e = ap suc (length-bytes_eq xs ys (and_parts _ (bytes_eq xs ys) e).1)
 
-length-backend : (s : List ℕ) → is_backend s ≡ true → length s ≤ 8
-length-backend s e = elim (or_cases (bytes_eq s (codes "graphite")) (bytes_eq s (codes "console") || (bytes_eq s (codes "repeater") || false)) e) [
-  | inl g ↦ omega (arith, length-bytes_eq s (codes "graphite") g)
-  | inr h ↦ elim (or_cases (bytes_eq s (codes "console")) (bytes_eq s (codes "repeater") || false) h) [
-    | inl g ↦ omega (arith, length-bytes_eq s (codes "console") g)
-    | inr i ↦ elim (or_cases (bytes_eq s (codes "repeater")) false i) [
-      | inl g ↦ omega (arith, length-bytes_eq s (codes "repeater") g)
-      | inr j ↦ absurd (false≢true j)
+length-among : (xs : List (List ℕ)) (s : List ℕ) → list_all (λ x. nat_le (length x) 8) xs ≡ true → list_any (bytes_eq s) xs ≡ true → length s ≤ 8
+length-among [] s short e = absurd (false≢true e)
+length-among (x ∷ xs) s short e =
+    let parts = and_parts (nat_le (length x) 8) (list_all (λ y. nat_le (length y) 8) xs) short in
+    elim (or_cases (bytes_eq s x) (list_any (bytes_eq s) xs) e) [
+      | inl same ↦ let here : length x ≤ 8 = grind (arith, nat_tests) in omega (arith, here, length-bytes_eq s x same)
+      | inr behind ↦ length-among xs s parts.1 behind
     ]
-  ]
-]
+
+length-backend : (s : List ℕ) → is_backend s ≡ true → length s ≤ 8
+length-backend s e = length-among (map backend_name backends ++ codes "repeater" ∷ []) s refl e
 
 length-names : (ts : List (List ℕ)) → AllPass is_backend ts → length (with_commas ts) ≤ 9 * length ts
 length-names [] h = omega arith
@@ -66,7 +68,7 @@ length-names (t ∷ u ∷ ts) h =
     let rest = length-names (u ∷ ts) (λ k d l. h (suc k) d (omega arith)) in
     omega (arith, rest, length-backend t (h zero t (omega arith)), length-append t (44 ∷ with_commas (u ∷ ts)))
 
-pub length-backends : (ts : List (List ℕ)) → AreBackends ts → length (with_commas ts) ≤ 27
+pub length-backends : (ts : List (List ℕ)) → AreBackends ts → length (with_commas ts) ≤ 9 * (length backends + 1)
 length-backends ts h = omega (arith, h.few, length-names ts h.known)
 
 length-class_names : (ts : List (List ℕ)) → AllPass is_class_name ts → length (with_commas ts) ≤ 20 * length ts

@@ -47,7 +47,7 @@ pub fn number_line(name: &[u8], number: u64) -> ReplyLine
 
 // The line of the setting at a place of a group, whose first has the number `first`.
 macro_rules! line_at {
-    (($settings:ident, $place:ident, $first:literal, $prefix:literal) $($number:literal $field:ident $read_call:ident: $name:literal, $kind:ident $range:tt, $allowed:literal;)*) => {{
+    (($settings:ident, $place:ident, $first:literal, $prefix:literal) $($number:literal $field:ident $read_call:ident: $name:literal, $kind:ident $range:tt, $allowed:expr;)*) => {{
         $(if $place == $number - $first {
             return Some(value_lines::$kind(concat!($prefix, $name), $settings.$read_call()));
         })*

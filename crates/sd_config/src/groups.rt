@@ -5,6 +5,7 @@ ghost use Rattle.sd_config.specs.Values.{section_of};
 ghost use Rattle.sd_config.specs.Groups.{server_view, deletions_view, addresses_view, entry_lists_view, sizes_view, flush_rules_view, transport_view};
 ghost use Rattle.sd_plan.specs.Names.{namespace_view};
 
+use crate::backends::MOST_BACKENDS;
 use crate::fault::ConfigFault;
 use crate::section::Section;
 use crate::values::TextRule;
@@ -19,7 +20,7 @@ use sd_plan::{Classes, Namespace, Node, Target};
 
 // What a group's settings are read as, in their order; the first fault decides.
 macro_rules! read_group {
-    (($section:ident, $group:ident) $($number:literal $field:ident $read_call:ident: $name:literal, $kind:ident($($range:expr),*), $allowed:literal;)*) => {{
+    (($section:ident, $group:ident) $($number:literal $field:ident $read_call:ident: $name:literal, $kind:ident($($range:expr),*), $allowed:expr;)*) => {{
         $(let $field = $section.$kind($name, $($range),*)?;)*
         Ok($group { $($field),* })
     }};
@@ -64,7 +65,7 @@ pub(crate) struct Addresses {
     pub(crate) prefix_stats: Name,
     pub(crate) address: Name,
     pub(crate) mgmt_address: Name,
-    pub(crate) backends: ArrayVec<Name, 3>,
+    pub(crate) backends: ArrayVec<Name, MOST_BACKENDS>,
     pub(crate) graphite_host: Name,
     pub(crate) graphite_port: u32,
 }

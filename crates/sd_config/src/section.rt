@@ -1,7 +1,8 @@
-ghost use Rattle.std.specs.Prelude.{◌≡◌, ◌≤◌, [], ◌∷◌, ◌++◌, length, map};
+ghost use Rattle.std.specs.Prelude.{◌≡◌, ◌+◌, ◌≤◌, [], ◌∷◌, ◌++◌, length, map};
 ghost use Rattle.std.specs.Option.{option_map};
 ghost use Rattle.toml.specs.Data.{get_member, no_members};
 ghost use Rattle.toml.specs.View.{view, table_view};
+ghost use Rattle.sd_model_outside.specs.Backend.{backends};
 ghost use Rattle.sd_model_settings.specs.Values.{whole_read, flag, text, listed, members, ranged, are_distinct};
 ghost use Rattle.sd_model_settings.specs.Entries.{thresholds, Share, read_as, is_backend, is_class_name};
 ghost use Rattle.sd_model_settings.specs.Settings.{with_name, found};
@@ -10,6 +11,7 @@ ghost use Rattle.sd_config.specs.Values.{passes, section_of, members_of};
 ghost use Rattle.sd_plan.specs.Values.{micros, name_bytes};
 ghost use Rattle.std.specs.Str.{bytes_eq};
 
+use crate::backends::MOST_BACKENDS;
 use crate::fault::{ConfigFault, ValueFault, shown};
 use crate::fields::found;
 use crate::lists::{self, Element};
@@ -151,10 +153,10 @@ impl<'a> Section<'a> {
         &self,
         name: &str,
         default: &str,
-    ) -> Result<ArrayVec<Name, 3>, ConfigFault>
+    ) -> Result<ArrayVec<Name, MOST_BACKENDS>, ConfigFault>
         requires { length default.now ≤ 255 }
         ensures { Gives (λ v. name_bytes v.items) result
-            (found (section_of self.now) name.now (λ d. ranged (are_distinct bytes_eq) (listed 3 (text is_backend) d)) (default.now ∷ [])) }
+            (found (section_of self.now) name.now (λ d. ranged (are_distinct bytes_eq) (listed (length backends + 1) (text is_backend) d)) (default.now ∷ [])) }
     {
         match self.get(name) {
             None => {

@@ -2,6 +2,8 @@
 //! each: a reading, a name that is known, or a line of the reply to `config`. A line is
 //! `NUMBER field read_call: "name", kind(range, default), "what is allowed";`. What an earlier line of its group read may be named in it.
 
+use sd_outside::BACKENDS_IN_WORDS;
+
 /// Ports, the interval between flushes in milliseconds, and the thresholds of timers.
 #[macro_export]
 macro_rules! server_settings {
@@ -43,7 +45,7 @@ macro_rules! address_settings {
             12 mgmt_address mgmt_address: "mgmt_address", text(TextRule::Host, "0.0.0.0"),
                 "a string of 1 to 64 bytes without spaces, a host or an address";
             13 backends backends: "backends", backends("graphite"),
-                "a list of \"graphite\", \"console\" and \"repeater\", each at most once";
+                BACKENDS_IN_WORDS;
             14 graphite_host graphite_host: "graphiteHost", text(TextRule::Host, "127.0.0.1"),
                 "a string of 1 to 64 bytes without spaces, a host or an address";
             15 graphite_port graphite_port: "graphitePort", whole(1, 65_535, 2003), "a whole number from 1 to 65535";
@@ -145,10 +147,10 @@ macro_rules! transport_settings {
 
 // Gathers the names of groups, one group after another, with what is allowed for each, behind what was gathered before.
 macro_rules! gathered {
-    (($finish:ident [$next:ident $($later:ident)*] $($so_far:tt)*) $($number:literal $field:ident $read_call:ident: $name:literal, $kind:ident $range:tt, $allowed:literal;)*) => {
+    (($finish:ident [$next:ident $($later:ident)*] $($so_far:tt)*) $($number:literal $field:ident $read_call:ident: $name:literal, $kind:ident $range:tt, $allowed:expr;)*) => {
         $next!(gathered($finish [$($later)*] $($so_far)* $(($name, $allowed))*))
     };
-    (($finish:ident [] $($so_far:tt)*) $($number:literal $field:ident $read_call:ident: $name:literal, $kind:ident $range:tt, $allowed:literal;)*) => {
+    (($finish:ident [] $($so_far:tt)*) $($number:literal $field:ident $read_call:ident: $name:literal, $kind:ident $range:tt, $allowed:expr;)*) => {
         $finish!($($so_far)* $(($name, $allowed))*)
     };
 }
@@ -162,15 +164,15 @@ macro_rules! at_the_top {
 }
 
 macro_rules! names {
-    ($(($name:literal, $allowed:literal))*) => { [$($name),*] };
+    ($(($name:literal, $allowed:expr))*) => { [$($name),*] };
 }
 
 macro_rules! allowed {
-    ($(($name:literal, $allowed:literal))*) => { [$(Allowed { name: $name, text: $allowed }),*] };
+    ($(($name:literal, $allowed:expr))*) => { [$(Allowed { name: $name, text: $allowed }),*] };
 }
 
 macro_rules! allowed_inside_graphite {
-    ($(($name:literal, $allowed:literal))*) => { [$(Allowed { name: concat!("graphite.", $name), text: $allowed }),*] };
+    ($(($name:literal, $allowed:expr))*) => { [$(Allowed { name: concat!("graphite.", $name), text: $allowed }),*] };
 }
 
 /// The names at the top of a file.

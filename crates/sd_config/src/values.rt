@@ -1,16 +1,19 @@
 ghost use Rattle.std.specs.Prelude.{◌≡◌, ◌≤◌, length, IsTrue, IfOk, nat_le, ◌&&◌};
-ghost use Rattle.std.specs.List.{list_all};
+ghost use Rattle.std.specs.List.{list_all, list_any};
+ghost use Rattle.std.specs.Str.{bytes_eq};
 ghost use Rattle.toml.specs.View.{view};
 ghost use Rattle.sd_model_text.specs.Names.{is_name_byte};
+ghost use Rattle.sd_model_outside.specs.Backend.{backend_name};
 ghost use Rattle.sd_model_settings.specs.Values.{whole_read, flag, text, decimal, is_name_text, is_filled_prefix, is_host};
 ghost use Rattle.sd_model_settings.specs.Entries.{is_backend, Share, read_as};
 ghost use Rattle.sd_law_settings.specs.Ranges.{IsWithin};
+ghost use Rattle.sd_outside.specs.Backends.{kind_of};
 ghost use Rattle.sd_config.specs.Answers.{seen_by};
 ghost use Rattle.sd_config.specs.Values.{passes, longest};
 
 use crate::fault::ValueFault;
 use sd_decimal::{Micro, NumberFault};
-use sd_outside::Name;
+use sd_outside::{BACKENDS, BackendKind, Name};
 use sd_plan::{is_class_name, name_of};
 use toml::Value;
 
@@ -107,12 +110,17 @@ fn is_host(bytes: &[u8]) -> bool
     !bytes.is_empty() && bytes.len() <= 64 && are_host_bytes(bytes)
 }
 
+// Whether some bytes are the name of one of some backends.
+fn is_name_of(bytes: &[u8], kinds: &[BackendKind]) -> bool
+    ensures { result ≡ list_any (λ kind. bytes_eq bytes.now (backend_name (kind_of kind))) kinds.now }
+{
+    kinds.iter().any(|kind| bytes == kind.name().as_bytes())
+}
+
 fn is_backend(bytes: &[u8]) -> bool
     ensures { result ≡ is_backend bytes.now }
 {
-    bytes == b"graphite".as_slice()
-        || bytes == b"console".as_slice()
-        || bytes == b"repeater".as_slice()
+    is_name_of(bytes, &BACKENDS) || bytes == b"repeater".as_slice()
 }
 
 // Whether a text passes the rule.

@@ -33,7 +33,7 @@ pub struct Lead<'a> {
     skipped_in_row: Streak,
 }
 
-/// The leads of both backends.
+/// The lead of each backend.
 #[derive(Drop)]
 pub struct Leads<'a> {
     pub graphite: Lead<'a>,

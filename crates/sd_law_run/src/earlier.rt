@@ -6,7 +6,7 @@ ghost use Rattle.sd_law_shards.specs.Records.{records};
 ghost use Rattle.sd_model_settings.specs.Settings.{settings};
 
 /// A file that was accepted before gauges could live longer and lines of timers were chosen has its scripts executed as
-/// before: a gauge that goes when idle goes at the first swap, and no record has a class of lines chosen, so both backends get
+/// before: a gauge that goes when idle goes at the first swap, and no record has a class of lines chosen, so each backend gets
 /// all lines of its timers.
 pub fn earlier_files_play_as_before()
     ensures policy { (bytes : List ℕ) → IfOk (earlier_settings bytes) (λ v. (policy_of v).max_ttl ≡ 1) }

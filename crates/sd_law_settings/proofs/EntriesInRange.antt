@@ -1,5 +1,5 @@
 -- Texts, thresholds, backends and entries that were read are in range.
-use Rattle.std.proofs.Common.{◌≡◌, ℕ, ◌<◌, ◌≤◌, true, ◌&&◌, nat_lt, nat_le, ℤ, List, [], ◌∷◌, length, map, codes, IfOk, All, refl, ap, inl, inr, arith}
+use Rattle.std.proofs.Common.{◌≡◌, ℕ, ◌+◌, ◌<◌, ◌≤◌, true, ◌&&◌, nat_lt, nat_le, ℤ, List, [], ◌∷◌, length, map, codes, IfOk, All, refl, ap, inl, inr, arith}
 use Rattle.std.specs.Prelude.{⊤}
 use Rattle.std.proofs.lemmas.Bool.{and_parts, or_cases, cases_Bool, false≢true}
 use Rattle.std.proofs.lemmas.Bool.Decides.{nat_tests}
@@ -8,6 +8,7 @@ use Rattle.std.proofs.lemmas.Slice.Eq.{bytes_eq-Decides}
 use Rattle.std.specs.List.{list_any, list_all, AllPass}
 use Rattle.std.specs.Str.{bytes_eq}
 use Rattle.toml.specs.Data.{Data, array, Items, Members, get_member}
+use Rattle.sd_model_outside.specs.Backend as Backend
 use Rattle.sd_model_text.specs.Names.{is_name_byte}
 use Rattle.sd_model_settings.specs.Values.{text, whole_read, is_name_text, is_filled_prefix, is_host, decimal, each, are_at_most, listed, one_or_list, are_distinct, ranged, both, required}
 use Rattle.sd_model_text.specs.Numbers.{Limit}
@@ -56,8 +57,8 @@ thresholds_in_range d =
 
 pub backends_in_range : (d : Data) → IfOk (backends d) AreBackends
 backends_in_range d =
-    ranged_in_range (are_distinct bytes_eq) _ (λ xs. (length xs ≤ 3) × All (λ s. is_backend s ≡ true) xs) AreBackends
-    (listed_in_range 3 (text is_backend) (λ s. is_backend s ≡ true) _ (text_in_range is_backend (λ s. is_backend s ≡ true) (λ s e. e)) (λ xs all short. (short, all)) d)
+    ranged_in_range (are_distinct bytes_eq) _ (λ xs. (length xs ≤ length Backend.backends + 1) × All (λ s. is_backend s ≡ true) xs) AreBackends
+    (listed_in_range (length Backend.backends + 1) (text is_backend) (λ s. is_backend s ≡ true) _ (text_in_range is_backend (λ s. is_backend s ≡ true) (λ s e. e)) (λ xs all short. (short, all)) d)
     (λ xs p e. record { few = p.0; known = p.1; distinct = e })
 
 pub class_names_in_range : (d : Data) → IfOk (class_names d) AreClassNames

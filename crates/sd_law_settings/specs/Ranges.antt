@@ -1,8 +1,9 @@
 -- The ranges that the values of every accepted file are in, as those rely on them who use the values.
-use Rattle.std.specs.Prelude.{◌≡◌, ◌≢◌, ℕ, ◌*◌, ◌<◌, ◌≤◌, true, ℤ, pos, unsigned_abs, List, length, All, nat_le, ◌&&◌}
+use Rattle.std.specs.Prelude.{◌≡◌, ◌≢◌, ℕ, ◌+◌, ◌*◌, ◌<◌, ◌≤◌, true, ℤ, pos, unsigned_abs, List, length, All, nat_le, ◌&&◌}
 use Rattle.std.specs.List.{AllPass}
 use Rattle.std.specs.Ordering.{int_eq}
 use Rattle.std.specs.Str.{bytes_eq}
+use Rattle.sd_model_outside.specs.Backend.{backends}
 use Rattle.sd_model_text.specs.Names.{is_name_byte}
 use Rattle.sd_model_settings.specs.Values.{are_distinct}
 use Rattle.sd_model_text.specs.Numbers.{Limit, ascends}
@@ -37,7 +38,7 @@ pub record AreThresholds (xs : List ℤ) : Type 0 where
 
 -- Backends, each at most once.
 pub record AreBackends (names : List (List ℕ)) : Type 0 where
-  pub few : length names ≤ 3
+  pub few : length names ≤ length backends + 1
   pub known : AllPass is_backend names
   pub distinct : are_distinct bytes_eq names ≡ true
 

@@ -1,5 +1,6 @@
 -- Short names that proofs have for parts of definitions.
-use Rattle.std.specs.Prelude.{List, ℕ, [], codes, Result, Bool, nat_le, not, unsigned_abs, ℤ, ◌&&◌, ◌==◌, Ok, if◌then◌else◌, Err, ◌++◌, map, ◌∷◌, decimal}
+use Rattle.std.specs.Prelude.{List, ℕ, ◌+◌, length, [], codes, Result, Bool, nat_le, not, unsigned_abs, ℤ, ◌&&◌, ◌==◌, Ok, if◌then◌else◌, Err, ◌++◌, map, ◌∷◌, decimal}
+use Rattle.sd_model_outside.specs.Backend as Backend
 use Rattle.sd_model_settings.specs.Settings.{Settings, Section}
 use Rattle.sd_model_settings.specs.ConfigText.{group_lines, config_line, limit_text, with_commas}
 use Rattle.sd_model_settings.specs.Table.{entry_lists}
@@ -57,7 +58,7 @@ class_names d = ranged (are_distinct bytes_eq) (listed 16 (text is_class_name) d
 
 -- a list of backends, each at most once
 abbrev pub backends : Data → Result (List (List ℕ)) ValueFlaw
-backends d = ranged (are_distinct bytes_eq) (listed 3 (text is_backend) d)
+backends d = ranged (are_distinct bytes_eq) (listed (length Backend.backends + 1) (text is_backend) d)
 
 -- a line for each entry of a list of tables, and none where it is empty
 abbrev pub entry_lines : Settings → List (List ℕ)

@@ -1,7 +1,7 @@
 -- The kinds of settings: of what type the values of each are, and what a value of the file is read as; and before them the settings
 -- that are lists: thresholds, backends, the entries of `histogram`, `repeater` and `nodes`, and the classes of timers' lines. The
 -- setting that chooses these has its name from StatsD (exampleConfig.js); the names that it lists are of this project.
-use Rattle.std.specs.{Prelude.{ℕ, ◌^◌, ◌==◌, ◌&&◌, ◌||◌, Bool, true, false, not, nat_le, if◌then◌else◌, ℤ, pos, unsigned_abs, int_lt, int_le, List, [], ◌∷◌, ◌++◌, codes, Result, Ok, Err, map, ◌*◌}, List.{list_any, list_all}, Str.{bytes_eq}, Ordering.{int_eq}}
+use Rattle.std.specs.{Prelude.{ℕ, ◌+◌, ◌^◌, ◌==◌, ◌&&◌, ◌||◌, Bool, true, false, not, nat_le, if◌then◌else◌, ℤ, pos, unsigned_abs, int_lt, int_le, List, [], ◌∷◌, ◌++◌, codes, Result, Ok, Err, length, map, ◌*◌}, List.{list_any, list_all}, Str.{bytes_eq}, Ordering.{int_eq}}
 use Rattle.toml.specs.Data.{Data, string, array, Items, no_items, item, Members, get_member}
 use Rattle.sd_model_outside.specs.Backend.{backends, backend_name}
 use Rattle.sd_model_text.specs.Numbers.{Limit, Below, Infinite, ascends}
@@ -134,7 +134,7 @@ read_as Prefix d = text (is_name_text 64) d
 read_as FilledPrefix d = text is_filled_prefix d
 read_as Host d = text is_host d
 read_as Thresholds d = thresholds d
-read_as Backends d = ranged (are_distinct bytes_eq) (listed 3 (text is_backend) d)
+read_as Backends d = ranged (are_distinct bytes_eq) (listed (length backends + 1) (text is_backend) d)
 read_as ClassNames d = ranged (are_distinct bytes_eq) (listed 16 (text is_class_name) d)
 read_as Histograms d = listed 16 classes d
 read_as Targets d = listed 16 (entry (λ ms. mapped (λ p. record { host = p.0; port = p.1 }) (host_and_port ms))) d

@@ -16,6 +16,10 @@ pub const BACKEND_COUNT: usize = 2;
 /// All kinds, in the order in which backends are opened, and a record is given to them.
 pub const BACKENDS: [BackendKind; BACKEND_COUNT] = [BackendKind::Graphite, BackendKind::Console];
 
+/// What a list of names of backends may have, in words. The repeater is named beside them.
+pub const BACKENDS_IN_WORDS: &str =
+    "a list of \"graphite\", \"console\" and \"repeater\", each at most once";
+
 impl BackendKind {
     /// Its name in settings and in the log.
     pub fn name(self) -> &'static str

@@ -24,7 +24,9 @@ mod wire;
 
 pub use address::{Address, Name};
 pub use backend::{Back, Backend, Backs};
-pub use backends::{BACKEND_COUNT, BACKENDS, BackendKind, PerBackend, TryBackend, VisitBackend};
+pub use backends::{
+    BACKEND_COUNT, BACKENDS, BACKENDS_IN_WORDS, BackendKind, PerBackend, TryBackend, VisitBackend,
+};
 pub use beat::{Beat, Interval, Tick};
 pub use calls::{fault, opening_fault};
 pub use clock::Clock;

@@ -24,7 +24,7 @@ pub record IsOutRoom (room : OutRoom) : Type 0 where
   pub drain_is : IsDrainOf room.outlet room.drain
   pub none_got : got room.drain ≡ []
 
--- this holds of both outlets
+-- this holds of each outlet
 abbrev pub AreOutRooms : PerBackend OutRoom → Type 0
 AreOutRooms rooms = (b : Backend) → IsOutRoom (at rooms b)
 

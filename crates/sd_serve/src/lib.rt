@@ -6,6 +6,7 @@
 //! It opens no object and writes no totals. That the workers come to their end, no clause says.
 #![tactic(auto)]
 
+mod beside;
 mod crew;
 mod line_post;
 mod objects;

@@ -35,7 +35,7 @@ impl OutRoom {
     }
 }
 
-/// The outlets of both backends. That of a backend that isn't used is there too, and nothing goes through it.
+/// The outlet of each backend. That of one that isn't used is there too, and nothing goes through it.
 pub type OutRooms = PerBackend<OutRoom>;
 
 /// Takes the room of outlets of so many buffers each, where that isn't 0, each buffer of so many bytes.

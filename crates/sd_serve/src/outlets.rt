@@ -19,6 +19,7 @@ ghost use Rattle.sd_serve.specs.Through.{FlushesThrough};
 ghost use Rattle.sd_serve.specs.Work.{CanFeed, CanKeep, CanLine, HasFed, HasKept, HasReadLines};
 ghost use Rattle.sd_serve.specs.Workers.{AreReady, HaveRun, held, sights};
 
+use crate::beside::run_with_pair;
 use crate::objects::ObjectsOf;
 use crate::out_room::OutRooms;
 use crate::run_settings::RunSettings;
@@ -32,7 +33,6 @@ use sd_outside::{Backend, Backs, DoorEnd, PerBackend};
 use sd_receive::Post;
 use sd_run::ObjectTypes;
 use sd_shared::Shared;
-use sd_workers::run_with_pair;
 use std::sync::Wait;
 use std::thread::Threads;
 
@@ -43,10 +43,10 @@ pub struct OutCount {
     pub worked: Worked,
 }
 
-/// The counts of both outlets.
+/// The count of each outlet.
 pub type OutCounts = PerBackend<OutCount>;
 
-/// Both outlets, and the drains by which their workers get the texts.
+/// The outlets, and the drains by which their workers get the texts.
 #[derive(Drop)]
 struct Drains<'o> {
     outlets: &'o PerBackend<Outlet>,

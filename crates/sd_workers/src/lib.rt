@@ -12,4 +12,4 @@ mod worker;
 
 pub use moving::{datagram_room, put_first, put_run, take_first, take_run};
 pub use reports::{Reports, ends_in};
-pub use worker::{Worker, run_with_pair, run_workers};
+pub use worker::{Worker, run_pair, run_workers};
